@@ -1,0 +1,24 @@
+//! What every crate of kdbsim speaks of: numbers, texts, events, and the two traits through which the debugger sees
+//! a machine.
+//!
+//! - A *hart* is a hardware thread of the simulated RISC-V machine, numbered from 0.
+//! - A *fault* is the reason why an instruction can't be executed, with the address, word or number that is at fault.
+//! - A *session* is the time from a hart's entry into the debugger to its leaving; its *reason* is the trap that opened it.
+//! - An *entry* is one event of the machine, as a journal lists it.
+//! - A *segment* is a range of memory with one kind of contents.
+//! - The *machine record* of `specs/Machine.antt` is the state that commands, steps and journals speak of.
+//!
+//! It stands on std alone, and every other crate stands on it.
+#![tactic(auto)]
+
+mod byte_text;
+mod event;
+mod memory_range;
+mod number;
+mod seen_by_kdb;
+
+pub use byte_text::{OutOfMemory, Text};
+pub use event::{Cause, Ending, Entry, Fault, Hart, Reason, What};
+pub use memory_range::{Kind, Segment};
+pub use number::{NumFault, parse_number, push_dec, push_hex};
+pub use seen_by_kdb::{Names, Peek};

@@ -1,0 +1,125 @@
+ghost use Rattle.std.specs.Prelude.{◌≡◌, ℕ, ◌+◌, ◌-◌, ◌*◌, ◌/◌, ◌%◌, ◌^◌, ◌<◌, ◌≤◌, ◌⊎◌, List, [], ◌∷◌, ◌++◌, length, not, drop, Result, Some, None, OnOk, OnErr, vec_len, vec_capacity, position, IsTrue, SomeIff};
+ghost use Rattle.std.specs.Char.{is_digit, digit_char, digit_value};
+ghost use Rattle.std.specs.Str.Parse.{digits_value, AllDigits};
+ghost use Rattle.mach_base.specs.Number.{has_prefix, first_bad, number_from, number_of, hex_text, dec_text};
+
+use crate::OutOfMemory;
+
+/// Why a text is no number.
+#[derive(Clone, Copy, Debug, PartialEq, Eq)]
+pub enum NumFault {
+    /// No digit is there.
+    Empty,
+    /// The byte at this index of the text, from 0, is no digit; it is the first such byte.
+    BadDigit { at: usize },
+    /// The value is 2^64 or more.
+    TooLarge,
+}
+
+/// Reads a number whose digits are in the radix 8, 10 or 16, or in 16 after a leading `0x` or `0X`. Letters of
+/// either case are hexadecimal digits. docs/formats.md has the rules.
+pub fn parse_number(text: &[u8], radix: u8) -> Result<u64, NumFault>
+    requires { (radix ≡ 8) ⊎ (radix ≡ 10) ⊎ (radix ≡ 16) }
+    ensures { result ≡ number_of radix text.now }
+{
+    match text {
+        [b'0', b'x' | b'X', digits @ ..] => parse_digits(digits, 16, 2),
+        digits => parse_digits(digits, radix, 0),
+    }
+}
+
+fn parse_digits(digits: &[u8], radix: u8, start: usize) -> Result<u64, NumFault>
+    requires low { 2 ≤ radix }
+    requires high { radix ≤ 16 }
+    requires start { start ≤ 2 }
+    ensures { result ≡ number_from radix start digits.now }
+{
+    if digits.is_empty() {
+        return Err(NumFault::Empty);
+    }
+    if let Some(at) = first_bad_digit(digits, radix) {
+        return Err(NumFault::BadDigit { at: start + at });
+    }
+    value_of_digits(digits, radix).ok_or(NumFault::TooLarge)
+}
+
+fn is_digit(byte: u8, radix: u8) -> bool
+    requires low { 2 ≤ radix }
+    requires high { radix ≤ 16 }
+    ensures { result ≡ is_digit byte radix }
+{
+    char::from(byte).is_digit(u32::from(radix))
+}
+
+fn first_bad_digit(digits: &[u8], radix: u8) -> Option<usize>
+    requires low { 2 ≤ radix }
+    requires high { radix ≤ 16 }
+    ensures { result ≡ first_bad radix digits.now }
+{
+    digits.iter().position(|digit| !is_digit(*digit, radix))
+}
+
+fn value_of_digits(digits: &[u8], radix: u8) -> Option<u64>
+    requires low { 2 ≤ radix }
+    requires high { radix ≤ 16 }
+    requires digits { AllDigits radix digits.now }
+    ensures { SomeIff result (digits_value radix digits.now < 2 ^ 64) (digits_value radix digits.now) }
+{
+    let mut value: u64 = 0;
+    for digit in digits {
+        match with_digit(value, *digit, radix) {
+            Some(more) => value = more,
+            None => return None,
+        }
+    }
+    Some(value)
+}
+
+/// The value with one more digit behind it, if it fits.
+fn with_digit(value: u64, digit: u8, radix: u8) -> Option<u64>
+    requires low { 2 ≤ radix }
+    requires high { radix ≤ 16 }
+    ensures { digit_value digit < radix → SomeIff result (value * radix + digit_value digit < 2 ^ 64) (value * radix + digit_value digit) }
+{
+    let digit = char::from(digit).to_digit(u32::from(radix))?;
+    value
+        .checked_mul(u64::from(radix))?
+        .checked_add(u64::from(digit))
+}
+
+/// Appends the number in `digits` hexadecimal digits, lower case, with leading zeros. A refusal leaves `out` as it was.
+pub fn push_hex(out: &mut Vec<u8>, value: u64, digits: u8) -> Result<(), OutOfMemory>
+    requires some { 1 ≤ digits }
+    requires most { digits ≤ 16 }
+    requires fits { value < 16 ^ digits }
+    ensures ok { OnOk result (out.new.items ≡ out.old.items ++ hex_text digits value) }
+    ensures err { OnErr result (out.new.items ≡ out.old.items) }
+{
+    out.reserve(usize::from(digits))?;
+    for place in (0..digits).rev() {
+        let digit = (value >> (4 * u32::from(place))) % 16;
+        out.push_reserved(hex_digit(digit as u8));
+    }
+    Ok(())
+}
+
+fn hex_digit(digit: u8) -> u8
+    requires { digit < 16 }
+    ensures { result ≡ digit_char digit }
+{
+    if digit < 10 {
+        b'0' + digit
+    } else {
+        b'a' + (digit - 10)
+    }
+}
+
+/// Appends the number in decimal, without leading zeros. A refusal leaves `out` as it was.
+pub fn push_dec(out: &mut Vec<u8>, value: u64) -> Result<(), OutOfMemory>
+    ensures ok { OnOk result (out.new.items ≡ out.old.items ++ dec_text value) }
+    ensures err { OnErr result (out.new.items ≡ out.old.items) }
+{
+    let digits = value.to_string(*out.allocator())?;
+    out.extend_from_slice(digits.as_bytes())?;
+    Ok(())
+}
