@@ -1,0 +1,20 @@
+-- What a context is at the start, and after a write to a register.
+use Rattle.std.specs.Prelude.{ℕ, ◌==◌, Bool, false, List, None, replicate, slice_set, if◌then◌else◌}
+use Rattle.mach_base.specs.Machine.{Context}
+
+-- x2 is the stack pointer, and every other register is 0
+abbrev pub start_context : ℕ → ℕ → Context
+start_context pc sp = record {
+  registers = slice_set (replicate 32 0) 2 sp;
+  pc = pc;
+  epc = 0;
+  vector = 0;
+  masked = false;
+  pending = false;
+  halted = false;
+  reservation = None;
+}
+
+-- the context after a write to a register; x0 stays 0
+abbrev pub with_register : Context → ℕ → ℕ → Context
+with_register c reg value = if reg == 0 then c else record c { registers = slice_set c.registers reg value }

@@ -1,0 +1,15 @@
+//! The context of a hart: what the hart itself holds, beside memory.
+//!
+//! - A *context* has the 32 integer registers x0 to x31, the pc, and what the firmware keeps for interrupts: the saved
+//!   pc, the vector, and whether interrupts are masked, one is pending, and the hart is halted.
+//! - A *reservation* is the granule of 8 bytes, by its number, on which the hart's last load-reserved was made.
+//! - The *ABI name* of a register is the one of the RISC-V calling convention, as `a0` for x10.
+//!
+//! It stands on `mach_base`; the machine's instructions and the debugger's registers stand on it.
+#![tactic(auto)]
+
+mod context;
+mod register_name;
+
+pub use context::Context;
+pub use register_name::{RegName, reg_name};
