@@ -1,0 +1,144 @@
+-- Which steps a machine with one hart may make.
+use Rattle.std.proofs.Common.{◌≡◌, ℕ, zero, suc, ◌+◌, ◌<◌, ◌==◌, ◌&&◌, ◌||◌, Bool, true, false, not, cond, IsTrue, List, [], ◌∷◌, length, get_or, Option, Some, None, Result, Ok, Err, nat_lt, is_none, is_some, option_map, refl, sym, ap, ◌∙◌, subst, arith, rules}
+use Rattle.std.proofs.lemmas.Bool.{false≢true}
+use Rattle.mach_base.specs.Machine.{Context, Machine}
+use Rattle.mach_base.specs.declared.event.Hart.{Hart}
+use Rattle.mach_base.specs.declared.event.Fault.{Fault}
+use Rattle.mach_base.specs.declared.event.Reason.{Reason}
+use Rattle.mach_base.specs.declared.event.Reason.TheVariants.{Fault as FaultReason, Compiled, Start}
+use Rattle.mach_base.specs.declared.event.Ending.{Ending}
+use Rattle.mach_base.specs.declared.event.Ending.TheVariants.{ScriptEnd, AllHalted, StepLimit, PlanEnd}
+use Rattle.atom_mach.specs.declared.step.Mode.{Mode}
+use Rattle.atom_mach.specs.declared.step.Mode.TheVariants.{Free, Hold, Pass, Back, Leave, Over}
+use Rattle.atom_mach.specs.declared.step.AStep.TheVariants.{Instr, Off}
+use Rattle.atom_mach.specs.Instruction.{ebreak_word, word_fault}
+use Rattle.atom_mach.specs.State.{State, context_at}
+use Rattle.atom_mach.specs.Step.{Done, does, ended, is_free, is_true_ending, holds_at_end, all_halted, is_hart, may_run, may_pass, executed, mode_after, trap, trap_in, late_trap, fault_of, fetched_at, fault_of_fetched, trap_of_fetched, breakpoint_or, enabled_place, runs, is_takeable}
+use Rattle.atom_mach.specs.Texts.{has_bit}
+use Rattle.atom_mach.specs.Modes.{is_alone}
+
+pub cond_true : {A : Type 0} (b : Bool) (x y : A) → b ≡ true → cond b x y ≡ x
+cond_true b x y e = rw e refl
+
+pub cond_false : {A : Type 0} (b : Bool) (x y : A) → b ≡ false → cond b x y ≡ y
+cond_false b x y e = rw e refl
+
+pub and_true : (a b : Bool) → (a && b) ≡ true → (a ≡ true) × (b ≡ true)
+and_true true b e = (refl, e)
+and_true false b e = absurd (cc)
+
+pub and_false : (a : Bool) → (a && false) ≡ false
+and_false true = refl
+and_false false = refl
+
+at_end_alone : (mode : Mode) (unread : List (List ℕ)) → IsTrue (is_alone mode) → holds_at_end mode unread ≡ false
+at_end_alone Free unread h = refl
+at_end_alone (Hold m late) unread h = absurd (false≢true h)
+at_end_alone (Pass m late again) unread h = refl
+at_end_alone (Back m late) unread h = refl
+at_end_alone (Leave m late) unread h = refl
+at_end_alone (Over ending) unread h = refl
+
+-- with nobody late only the endings of a free machine come
+pub does-Off : (s : State) (e : Ending) → IsTrue (is_alone s.mode) → does s (Off e) ≡ ended s e
+unfolding does
+does-Off s ScriptEnd h = cond_false (holds_at_end s.mode s.machine.unread) _ _ (at_end_alone s.mode s.machine.unread h) ∙ sym (cond_false (is_free s.mode && false) _ _ (and_false (is_free s.mode)))
+does-Off s AllHalted h = refl
+does-Off s StepLimit h = refl
+does-Off s PlanEnd h = sym (cond_false (is_free s.mode && false) _ _ (and_false (is_free s.mode)))
+
+-- a list of one context is that one
+pub all_halted-one : (cs : List Context) (d : Context) → length cs ≡ 1 → all_halted cs ≡ (get_or cs 0 d).halted
+all_halted-one [] d e = absurd (omega arith)
+all_halted-one (c ∷ []) d e = alone c.halted
+  where
+  alone : (b : Bool) → (b && true) ≡ b
+  alone true = refl
+  alone false = refl
+all_halted-one (c ∷ k ∷ cs) d e = absurd (omega arith)
+
+-- an instruction that is allowed
+pub does-Instr : (s : State) (h : Hart) → h.0 < length s.machine.harts → (may_run s h.0 || may_pass s h.0) ≡ true → does s (Instr h) ≡ Some (record { text = []; next = record { machine = executed s.machine h.0; mode = mode_after s.mode h.0 } })
+unfolding does
+does-Instr s h lt e = cond_true (is_hart s.machine h.0 && (may_run s h.0 || may_pass s h.0)) _ _ (both (is_hart s.machine h.0) (may_run s h.0 || may_pass s h.0) (search rules) e)
+  where
+  both : (a b : Bool) → a ≡ true → b ≡ true → (a && b) ≡ true
+  both a b p q = rw (p, q) refl
+
+-- one that isn't
+pub does-Instr-not : (s : State) (h : Hart) → may_run s h.0 ≡ false → may_pass s h.0 ≡ false → does s (Instr h) ≡ None
+unfolding does
+does-Instr-not s h e f = cond_false (is_hart s.machine h.0 && (may_run s h.0 || may_pass s h.0)) _ _ (neither (is_hart s.machine h.0) (may_run s h.0) (may_pass s h.0) e f)
+  where
+  neither : (a b c : Bool) → b ≡ false → c ≡ false → (a && (b || c)) ≡ false
+  neither a b c p q = rw (p, q) (and_false a)
+
+late_none : (b : Bool) (late : ℕ) → IsTrue (b && (late == 0)) → has_bit late 0 ≡ true → ⊥
+late_none false late h e = false≢true h
+late_none true late h e =
+    let none : late ≡ 0 = search rules in
+    false≢true (rw none at e)
+
+runs_alone : (mode : Mode) (opened : Bool) → IsTrue (is_alone mode) → runs mode opened 0 ≡ true → (mode ≡ Free) × (opened ≡ true)
+runs_alone Free opened h e = (refl, e)
+runs_alone (Hold m late) opened h e = absurd (false≢true h)
+runs_alone (Pass m late again) opened h e = absurd (late_none (m.0 == 0) late h e)
+runs_alone (Back m late) opened h e = absurd (late_none (m.0 == 0) late h e)
+runs_alone (Leave m late) opened h e = absurd (false≢true h)
+runs_alone (Over ending) opened h e = absurd (false≢true e)
+
+none_fault : (c : Context) (r : Result ℕ Fault) → trap_of_fetched c r ≡ None → fault_of_fetched c r ≡ None
+none_fault c (Err f) e = absurd (cc)
+none_fault c (Ok word) e = by_word (word == ebreak_word) (word_fault c word) e
+  where
+  by_word : (b : Bool) (f : Option Fault) → cond b (Some Compiled) (option_map FaultReason f) ≡ None → f ≡ None
+  by_word true f e = absurd (cc)
+  by_word false None e = refl
+  by_word false (Some f) e = absurd (cc)
+
+none_behind : (p : Option ℕ) (r : Option Reason) → breakpoint_or p r ≡ None → r ≡ None
+none_behind None r e = e
+none_behind (Some i) r e = absurd (cc)
+
+is_none-None : {A : Type 0} (o : Option A) → is_none o ≡ true → o ≡ None
+is_none-None None e = refl
+is_none-None (Some x) e = absurd (false≢true e)
+
+-- a hart with no trap has no fault
+pub fault_of-trap : (s : Machine) (h : ℕ) → s.opened ≡ true → (context_at s h).halted ≡ false → trap s h ≡ None → fault_of s h ≡ None
+unfolding trap fault_of
+fault_of-trap s h opened awake e =
+    none_fault (context_at s h) (fetched_at s h) (none_behind (enabled_place (context_at s h).pc 0 s.places) _ (behind s.opened (h == 0) (context_at s h).halted _ opened awake e))
+  where
+  behind : (a b c : Bool) (r : Option Reason) → a ≡ true → c ≡ false → cond (not a && b) (Some Start) (cond c None r) ≡ None → r ≡ None
+  behind true b false r p q e = e
+  behind true b true r p q e = absurd (false≢true (sym q))
+  behind false b c r p q e = absurd (false≢true p)
+
+-- the hart that may execute is in the free machine, and has no fault
+pub may_run-alone : (s : State) → IsTrue (is_alone s.mode) → may_run s 0 ≡ true → (s.mode ≡ Free) × (fault_of s.machine 0 ≡ None)
+may_run-alone s alone e =
+    let c = context_at s.machine 0 in
+    let p = and_true (runs s.mode s.machine.opened 0) _ e in
+    let q = and_true (not c.halted) _ p.1 in
+    let r = and_true (not (is_takeable c)) _ q.1 in
+    let t = and_true (nat_lt s.machine.steps s.machine.limit) _ r.1 in
+    let free = runs_alone s.mode s.machine.opened alone p.0 in
+    let no_trap : trap_in s.mode s.machine 0 ≡ None = is_none-None (trap_in s.mode s.machine 0) t.1 in
+    (free.0, fault_of-trap s.machine 0 free.1 (not_true c.halted q.0) (in_free s.mode s.machine free.0 no_trap))
+  where
+  not_true : (b : Bool) → not b ≡ true → b ≡ false
+  not_true true e = absurd (false≢true e)
+  not_true false e = refl
+
+  in_free : (mode : Mode) (s : Machine) → mode ≡ Free → trap_in mode s 0 ≡ None → trap s 0 ≡ None
+  in_free mode s e h = rw e at h
+
+-- a list of one context gives it, whatever stands for none
+pub context_one : (cs : List Context) (d e : Context) → length cs ≡ 1 → get_or cs 0 d ≡ get_or cs 0 e
+context_one [] d e h = absurd (omega arith)
+context_one (c ∷ cs) d e h = refl
+
+-- equal parts make equal answers
+pub same_done : (t u : List ℕ) (a b : Machine) (m n : Mode) → u ≡ t → b ≡ a → n ≡ m → ◌≡◌ {A = Done} (record { text = t; next = record { machine = a; mode = m } }) (record { text = u; next = record { machine = b; mode = n } })
+same_done t u a b m n e f g = rw (e, f, g) refl

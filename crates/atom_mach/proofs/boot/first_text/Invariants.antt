@@ -1,0 +1,7 @@
+use Rattle.std.proofs.Common.{◌≡◌, drop}
+use Rattle.atom_mach.specs.State.{first_text}
+use Rattle.atom_mach.proofs.boot.first_text.Given as goal
+
+-- no segment so far holds text
+abbrev pub invariant-loop-segment : goal.invariant-loop-segment
+invariant-loop-segment l = first_text (drop l.segment-index l.segments) ≡ first_text l.segments

@@ -1,0 +1,14 @@
+use Rattle.std.proofs.Common.{◌≡◌, ◌-◌, vec_len}
+use Rattle.mach_base.specs.declared.event.Hart.{Hart}
+use Rattle.atom_mach.specs.Step.{session_lines, prefixed}
+use Rattle.atom_mach.specs.Core.{machine_of}
+use Rattle.atom_mach.proofs.one_hart.Core.session_lines.Given as goal
+
+-- what was printed and what is left to run are what was to run
+abbrev pub invariant-loop-self : goal.invariant-loop-self
+invariant-loop-self l = record {
+  told : prefixed l.out.items (session_lines (record { 0 = 0 }) (machine_of l.self).unread (machine_of l.self)) ≡ prefixed l.fn.out.items (session_lines (record { 0 = 0 }) (machine_of l.fn.self).unread (machine_of l.fn.self));
+}
+
+abbrev pub decreases-loop-self : goal.decreases-loop-self
+decreases-loop-self l = vec_len l.self.lines - l.self.read

@@ -1,0 +1,13 @@
+pub mod Instruction
+pub mod Script
+pub mod Line
+pub mod Request
+pub mod Texts
+pub mod State
+pub mod Step
+pub mod Run
+pub mod Modes
+pub mod Core
+pub mod Unbuilt
+pub mod Work
+pub mod StateCode

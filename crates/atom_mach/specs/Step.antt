@@ -1,0 +1,326 @@
+-- The steps of the atomic machine: where each is allowed, what it does and what it prints.
+use Rattle.std.specs.Prelude.{◌≡◌, ℕ, ◌+◌, ◌^◌, ◌==◌, ◌&&◌, ◌||◌, Bool, true, false, not, List, [], ◌∷◌, ◌++◌, length, codes, Option, Some, None, Result, Ok, Err, nat_lt, nat_le, is_none, option_map, unwrap_or, if◌then◌else◌}
+use Rattle.std.specs.Cmp.Lexicographic.{pointwise}
+use Rattle.mach_base.specs.Number.{dec_text}
+use Rattle.mach_base.specs.Machine.{Context, Place, Machine}
+use Rattle.mach_base.specs.declared.event.Hart.{Hart}
+use Rattle.mach_base.specs.declared.event.Fault.{Fault}
+use Rattle.mach_base.specs.declared.event.Reason.{Reason}
+use Rattle.mach_base.specs.declared.event.Reason.TheVariants.{Start, Breakpoint, Compiled, Step, Fault as FaultReason}
+use Rattle.mach_base.specs.declared.event.Ending.{Ending}
+use Rattle.mach_base.specs.declared.event.Ending.TheVariants.{ScriptEnd, AllHalted, StepLimit, PlanEnd}
+use Rattle.mem_map.specs.Access.{fetched}
+use Rattle.atom_mach.specs.declared.step.Mode.{Mode}
+use Rattle.atom_mach.specs.declared.step.Mode.TheVariants.{Free, Hold, Pass, Back, Leave, Over}
+use Rattle.atom_mach.specs.declared.step.AStep.{AStep}
+use Rattle.atom_mach.specs.declared.step.AStep.TheVariants.{Instr, Intr, Session, Enter, Line, End, Off}
+use Rattle.atom_mach.specs.declared.step.Outcome.{Outcome}
+use Rattle.atom_mach.specs.declared.step.Outcome.TheVariants.{Stay, Go, Step as StepOut}
+use Rattle.atom_mach.specs.Instruction.{ebreak_word, word_fault, after_word}
+use Rattle.atom_mach.specs.Line.{Request, Nothing, Leave as LeaveRequest, ShowRegisters, Unknown, request_of}
+use Rattle.atom_mach.specs.Texts.{newline, has_bit, banner_text, with_number, registers_text, unknown_command_text}
+use Rattle.atom_mach.specs.State.{State, context_at, with_context}
+
+-- Instructions and traps.
+
+-- the word at the hart's pc, or the fault of fetching it
+abbrev pub fetched_at : Machine → ℕ → Result ℕ Fault
+fetched_at s h = fetched s.memory (context_at s h).pc
+
+abbrev pub fault_of_fetched : Context → Result ℕ Fault → Option Fault
+fault_of_fetched c (Ok word) = word_fault c word
+fault_of_fetched c (Err fault) = Some fault
+
+-- The fault of the hart's instruction, if any: that of the fetch, then that of the word.
+unfoldable pub fault_of : Machine → ℕ → Option Fault
+fault_of s h = fault_of_fetched (context_at s h) (fetched_at s h)
+
+abbrev pub after_fetched : Context → Result ℕ Fault → Context
+after_fetched c (Ok word) = after_word c word
+after_fetched c (Err fault) = c
+
+-- one step more
+abbrev pub counted : Machine → Machine
+counted s = record s { steps = s.steps + 1 }
+
+-- The machine after the hart's instruction, where it doesn't fault; a step is counted.
+unfoldable pub executed : Machine → ℕ → Machine
+executed s h = counted (with_context s h (after_fetched (context_at s h) (fetched_at s h)))
+
+-- whether the hart's interrupt may be taken: pending, not masked, not halted, and there is a handler
+abbrev pub is_takeable : Context → Bool
+is_takeable c = c.pending && (not c.masked && (not c.halted && not (c.vector == 0)))
+
+-- the context after the interrupt is taken
+abbrev pub after_interrupt : Context → Context
+after_interrupt c = record c { epc = c.pc; pc = c.vector; pending = false; masked = true }
+
+-- the machine after the hart's interrupt is taken; a step is counted
+abbrev pub interrupted : Machine → ℕ → Machine
+interrupted s h = counted (with_context s h (after_interrupt (context_at s h)))
+
+-- the first place that is enabled at this pc, where the first of these is place i
+abbrev pub enabled_place : ℕ → ℕ → List (Option Place) → Option ℕ
+enabled_place pc i [] = None
+enabled_place pc i (None ∷ places) = enabled_place pc (i + 1) places
+enabled_place pc i (Some p ∷ places) = if p.enabled && (p.addr == pc) then Some i else enabled_place pc (i + 1) places
+
+-- the trap of the word at the pc: an ebreak of the image, or a fault
+abbrev pub trap_of_fetched : Context → Result ℕ Fault → Option Reason
+trap_of_fetched c (Err fault) = Some (FaultReason fault)
+trap_of_fetched c (Ok word) = if word == ebreak_word then Some Compiled else option_map FaultReason (word_fault c word)
+
+-- The trap of a hart for which breakpoints don't count: the start, none where it is halted, an ebreak or a fault.
+unfoldable pub late_trap : Machine → ℕ → Option Reason
+late_trap s h =
+    if not s.opened && (h == 0) then Some Start
+    else (if (context_at s h).halted then None
+    else trap_of_fetched (context_at s h) (fetched_at s h))
+
+abbrev pub breakpoint_or : Option ℕ → Option Reason → Option Reason
+breakpoint_or (Some i) other = Some (Breakpoint i)
+breakpoint_or None other = other
+
+-- The trap of a hart: the start, none where it is halted, a breakpoint, an ebreak or a fault.
+unfoldable pub trap : Machine → ℕ → Option Reason
+trap s h =
+    if not s.opened && (h == 0) then Some Start
+    else (if (context_at s h).halted then None
+    else breakpoint_or (enabled_place (context_at s h).pc 0 s.places) (trap_of_fetched (context_at s h) (fetched_at s h)))
+
+-- Modes.
+
+-- the mode once a session is left by go and no instruction is owed
+abbrev pub after_go : Hart → ℕ → Mode
+after_go m late = if late == 0 then Free else Leave m late
+
+-- whether the hart runs: all harts in the free machine once a session was opened, and the late ones beside a session
+abbrev pub runs : Mode → Bool → ℕ → Bool
+runs Free opened h = opened
+runs (Hold m late) opened h = has_bit late h
+runs (Pass m late again) opened h = has_bit late h
+runs (Back m late) opened h = has_bit late h
+runs (Leave m late) opened h = has_bit late h
+runs (Over ending) opened h = false
+
+-- the trap that keeps a hart from executing: beside a session breakpoints don't count
+abbrev pub trap_in : Mode → Machine → ℕ → Option Reason
+trap_in Free s h = trap s h
+trap_in (Hold m late) s h = late_trap s h
+trap_in (Pass m late again) s h = late_trap s h
+trap_in (Back m late) s h = late_trap s h
+trap_in (Leave m late) s h = late_trap s h
+trap_in (Over ending) s h = late_trap s h
+
+-- whether the hart owes an instruction: its session was left into a single-step pass
+abbrev pub owes : Mode → ℕ → Bool
+owes (Pass m late again) h = m.0 == h
+owes mode h = false
+
+-- the mode after an instruction of the hart
+abbrev pub mode_after : Mode → ℕ → Mode
+mode_after (Pass m late again) h =
+    if m.0 == h then (if again then Back m late else after_go m late) else Pass m late again
+mode_after mode h = mode
+
+-- Sessions.
+
+-- what a step prints, and the state after it
+pub record Done : Type 0 where
+  pub text : List ℕ
+  pub next : State
+
+-- the reason for which the hart may open a session with these late harts, if any: its trap in the free machine; after a
+-- step in a pass, Step; in a pass, the fault of the instruction that it owes
+abbrev pub opening : Mode → Machine → ℕ → ℕ → Option Reason
+opening Free s m late = trap s m
+opening (Back k was_late) s m late = if (k.0 == m) && (was_late == late) then Some Step else None
+opening (Pass k was_late again) s m late =
+    if (k.0 == m) && (was_late == late) then option_map FaultReason (fault_of s m) else None
+opening mode s m late = None
+
+-- the value of the variable of this name
+abbrev pub variable_value : List ℕ → List (List ℕ × List ℕ) → Option (List ℕ)
+variable_value name [] = None
+variable_value name (v ∷ vs) = if pointwise ◌==◌ v.0 name then Some v.1 else variable_value name vs
+
+-- the prompt: the variable PROMPT with its first %d replaced by the current processor
+abbrev pub prompt_text : Machine → List ℕ
+prompt_text s = with_number s.current (unwrap_or (variable_value (codes "PROMPT") s.variables) [])
+
+-- the prompt at the start, on processor 0
+abbrev pub first_prompt : List ℕ
+first_prompt = codes "[" ++ (dec_text 0 ++ codes "]kdb> ")
+
+-- what a line prints behind its echo, what it leaves, and whether the session goes on
+pub record Said : Type 0 where
+  pub output : List ℕ
+  pub machine : Machine
+  pub outcome : Outcome
+
+-- what each request prints
+abbrev pub output_of : Request → Context → List ℕ
+output_of Nothing c = []
+output_of LeaveRequest c = []
+output_of ShowRegisters c = registers_text c
+output_of (Unknown word) c = unknown_command_text word
+
+-- whether the session goes on after it
+abbrev pub outcome_of : Request → Outcome
+outcome_of Nothing = Stay
+outcome_of LeaveRequest = Go
+outcome_of ShowRegisters = Stay
+outcome_of (Unknown word) = Stay
+
+-- the machine once its next line is read
+abbrev pub with_read : Machine → List (List ℕ) → Machine
+with_read s rest = record s { unread = rest; lines_read = s.lines_read + 1 }
+
+-- What one line does.
+unfoldable pub line_said : List ℕ → Machine → Said
+line_said line s = record {
+  output = output_of (request_of line) (context_at s s.current);
+  machine = s;
+  outcome = outcome_of (request_of line);
+}
+
+-- the prompt, the line and what it prints
+abbrev pub line_text : List ℕ → Machine → List ℕ
+line_text line s = prompt_text s ++ (line ++ (newline ++ (line_said line s).output))
+
+abbrev pub stops_again : Option Reason → Bool
+stops_again (Some (Breakpoint i)) = true
+stops_again (Some Compiled) = true
+stops_again other = false
+
+-- the mode after go: a pass where the master would stop at once, else free or leaving
+abbrev pub mode_of_go : Machine → Hart → ℕ → Mode
+mode_of_go s m late = if stops_again (trap s m.0) then Pass m late false else after_go m late
+
+-- the text before what follows
+abbrev pub prefixed : List ℕ → Done → Done
+prefixed text d = record { text = text ++ d.text; next = d.next }
+
+-- what follows a line, by its outcome
+abbrev pub after_line : Outcome → List ℕ → Machine → Hart → Done → Done
+after_line Stay text s m rest = prefixed text rest
+after_line Go text s m rest = record { text = text; next = record { machine = s; mode = mode_of_go s m 0 } }
+after_line StepOut text s m rest = record { text = text; next = record { machine = s; mode = Pass m 0 true } }
+
+-- The lines of a session of m with nobody late, up to the first that leaves, or to a prompt that finds none.
+unfoldable pub session_lines : Hart → List (List ℕ) → Machine → Done
+session_lines m [] s = record { text = prompt_text s ++ newline; next = record { machine = s; mode = Over ScriptEnd } }
+session_lines m (line ∷ rest) s =
+    after_line (line_said line (with_read s rest)).outcome (line_text line (with_read s rest))
+      (line_said line (with_read s rest)).machine m (session_lines m rest (line_said line (with_read s rest)).machine)
+
+-- the machine once a session of m is open
+abbrev pub entered : Machine → ℕ → Machine
+entered s m = record s { current = m; opened = true }
+
+-- A session of m with nobody late: its banner, then its lines.
+unfoldable pub session : Machine → Hart → Reason → Done
+session s m reason = prefixed (banner_text 0 m.0 reason (context_at s m.0).pc) (session_lines m s.unread (entered s m.0))
+
+-- Endings.
+
+abbrev pub all_halted : List Context → Bool
+all_halted [] = true
+all_halted (c ∷ cs) = c.halted && all_halted cs
+
+-- whether the ending is true of a free machine
+abbrev pub is_true_ending : Machine → Ending → Bool
+is_true_ending s ScriptEnd = false
+is_true_ending s AllHalted = all_halted s.harts
+is_true_ending s StepLimit = not (all_halted s.harts) && nat_le s.limit s.steps
+is_true_ending s PlanEnd = false
+
+abbrev pub is_free : Mode → Bool
+is_free Free = true
+is_free mode = false
+
+abbrev pub holds_at_end : Mode → List (List ℕ) → Bool
+holds_at_end (Hold m late) [] = true
+holds_at_end mode unread = false
+
+-- Steps.
+
+-- whether the hart is one of the machine's
+abbrev pub is_hart : Machine → ℕ → Bool
+is_hart s h = nat_lt h (length s.harts)
+
+-- a hart that runs executes where it isn't halted, has no interrupt to take, no trap, and the limit isn't reached
+abbrev pub may_run : State → ℕ → Bool
+may_run s h =
+    runs s.mode s.machine.opened h && (not (context_at s.machine h).halted && (not (is_takeable (context_at s.machine h))
+    && (nat_lt s.machine.steps s.machine.limit && is_none (trap_in s.mode s.machine h))))
+
+-- a hart that owes an instruction executes it where it doesn't fault
+abbrev pub may_pass : State → ℕ → Bool
+may_pass s h = owes s.mode h && is_none (fault_of s.machine h)
+
+abbrev pub may_take : State → ℕ → Bool
+may_take s h =
+    runs s.mode s.machine.opened h && (is_takeable (context_at s.machine h) && nat_lt s.machine.steps s.machine.limit)
+
+abbrev pub opened_for : State → Hart → Option Reason → Option Done
+opened_for s m None = None
+opened_for s m (Some reason) = Some (session s.machine m reason)
+
+abbrev pub held_for : State → Hart → ℕ → Option Reason → Option Done
+held_for s m late None = None
+held_for s m late (Some reason) = Some (record {
+  text = banner_text late m.0 reason (context_at s.machine m.0).pc;
+  next = record { machine = entered s.machine m.0; mode = Hold m late };
+})
+
+-- the mode after a line of a session with late harts
+abbrev pub held_mode : Outcome → Machine → Hart → ℕ → Mode
+held_mode Stay s m late = Hold m late
+held_mode Go s m late = mode_of_go s m late
+held_mode StepOut s m late = Pass m late true
+
+abbrev pub held_line : Mode → List (List ℕ) → Machine → Option Done
+held_line (Hold m late) (line ∷ rest) s = Some (record {
+  text = line_text line (with_read s rest);
+  next = record {
+    machine = (line_said line (with_read s rest)).machine;
+    mode = held_mode (line_said line (with_read s rest)).outcome (line_said line (with_read s rest)).machine m late;
+  };
+})
+held_line mode unread s = None
+
+abbrev pub closed : Mode → Machine → Option Done
+closed (Leave m late) s = Some (record { text = []; next = record { machine = s; mode = Free } })
+closed mode s = None
+
+abbrev pub ended : State → Ending → Option Done
+ended s ending =
+    if is_free s.mode && is_true_ending s.machine ending
+    then Some (record { text = []; next = record { machine = s.machine; mode = Over ending } })
+    else None
+
+-- What an allowed step prints and leaves; None where the step isn't allowed.
+unfoldable pub does : State → AStep → Option Done
+does s (Instr h) =
+    if is_hart s.machine h.0 && (may_run s h.0 || may_pass s h.0)
+    then Some (record { text = []; next = record { machine = executed s.machine h.0; mode = mode_after s.mode h.0 } })
+    else None
+does s (Intr h) =
+    if is_hart s.machine h.0 && may_take s h.0
+    then Some (record { text = []; next = record { machine = interrupted s.machine h.0; mode = s.mode } })
+    else None
+does s (Session m) = if is_hart s.machine m.0 then opened_for s m (opening s.mode s.machine m.0 0) else None
+does s (Enter m late) =
+    if is_hart s.machine m.0 && (not (late == 0) && (nat_lt late (2 ^ length s.machine.harts) && not (has_bit late m.0)))
+    then held_for s m late (opening s.mode s.machine m.0 late)
+    else None
+does s Line = held_line s.mode s.machine.unread s.machine
+does s End = closed s.mode s.machine
+does s (Off ScriptEnd) =
+    if holds_at_end s.mode s.machine.unread
+    then Some (record { text = prompt_text s.machine ++ newline; next = record { machine = s.machine; mode = Over ScriptEnd } })
+    else None
+does s (Off AllHalted) = ended s AllHalted
+does s (Off StepLimit) = ended s StepLimit
+does s (Off PlanEnd) = None

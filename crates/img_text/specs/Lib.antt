@@ -1,0 +1,6 @@
+pub mod Lines
+pub mod Image
+pub mod Directives
+pub mod Reading
+pub mod Blocks
+pub mod Reader

@@ -1,0 +1,7 @@
+-- The code's state while it reads, as a draft.
+use Rattle.img_text.specs.declared.reading.Reader.{Reader}
+use Rattle.img_text.specs.Reading.{Draft}
+use Rattle.img_text.specs.Blocks.{latest_first}
+
+abbrev pub draft_of : Reader → Draft
+draft_of reader = record { parts = latest_first reader.parts.items; pcs = reader.pcs; sps = reader.sps }

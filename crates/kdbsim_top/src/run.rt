@@ -1,0 +1,38 @@
+ghost use Rattle.std.specs.Prelude.{◌≡◌, [], Ok, None, IfOk};
+ghost use Rattle.atom_mach.specs.Script.{checked_script};
+ghost use Rattle.atom_mach.specs.State.{start_state};
+ghost use Rattle.atom_mach.specs.Run.{IsTranscript, first_allowed};
+ghost use Rattle.kdbsim_top.specs.Causes.{uni_limit};
+
+use atom_mach::{Atom, Symbols, push_ending_line};
+use img_text::Image;
+use mach_base::{Ending, OutOfMemory};
+use std::alloc::Global;
+
+/// The limit of steps of `uni`.
+const UNI_LIMIT: u64 = 1_000_000;
+
+/// How a run ended, and its transcript.
+#[derive(Drop)]
+pub struct Told {
+    pub ending: Ending,
+    pub transcript: Vec<u8>,
+}
+
+/// Runs a machine with one hart to its end.
+pub fn run_uni(alloc: Global, image: &Image, script: &[u8]) -> Result<Told, OutOfMemory>
+    requires { checked_script script.now ≡ Ok tt }
+    ensures { IfOk result (λ told. IsTranscript first_allowed (start_state image.now [] script.now 1 uni_limit) told.ending told.transcript.items) }
+{
+    let names = Symbols::read(alloc, &[])?;
+    let mut atom = Atom::start(alloc, image, names, script, 1, UNI_LIMIT)?;
+    let mut transcript = Vec::new(alloc);
+    loop {
+        if let Some(ending) = atom.over() {
+            push_ending_line(&mut transcript, ending, atom.steps())?;
+            return Ok(Told { ending, transcript });
+        }
+        let text = atom.turn()?;
+        transcript.extend_from_slice(text.as_bytes())?;
+    }
+}

@@ -1,0 +1,6 @@
+pub mod Entries
+pub mod Natural
+pub mod Lookups
+pub mod Writes
+pub mod Numbers
+pub mod Built

@@ -1,0 +1,18 @@
+//! The memory of the simulated machine, with rights.
+//!
+//! - A *map* is memory: segments in order, each with its bytes. Contracts see it as the record `Memory` of mach_base:
+//!   the segments, and each mapped address with its byte.
+//! - An *access* is a fetch, a load or a store of 1, 2, 4 or 8 bytes from an address on; numbers are little-endian.
+//! - A segment's kind gives the *right*: text is fetched, data loaded and stored, rodata loaded.
+//! - An access *faults* as misaligned, unmapped or without right, in this order, and then changes nothing.
+//!
+//! docs/machine.md has the rules. `specs/Access.antt` says what an access reads and leaves; the crates that execute
+//! instructions and the debugger stand on it.
+#![tactic(auto)]
+
+mod memory;
+mod piece;
+mod rights;
+
+pub use mach_base::{Kind, Segment};
+pub use memory::Map;
