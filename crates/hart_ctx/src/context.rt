@@ -93,3 +93,20 @@ impl Context {
         }
     }
 }
+
+#[cfg(test)]
+mod tests {
+    use super::*;
+
+    #[test]
+    fn writes_registers_but_not_zero(rt: HostRuntime) {
+        let mut context = Context::new(0x1000, 0x8000);
+        assert_eq!(rt;
+            (context.pc, context.get(2), context.get(1)),
+            (0x1000, 0x8000, 0)
+        );
+        context.set(10, 5);
+        context.set(0, 7);
+        assert_eq!(rt; (context.get(10), context.get(0)), (5, 0));
+    }
+}

@@ -60,3 +60,16 @@ fn abi_name(number: u8) -> &'static str
         _ => unreachable!(),
     }
 }
+
+#[cfg(test)]
+mod tests {
+    use super::*;
+
+    #[test]
+    fn names_registers(rt: HostRuntime) {
+        for (number, name) in [(0, "zero"), (2, "sp"), (8, "s0"), (17, "a7"), (31, "t6")] {
+            assert_eq!(rt; reg_name(RegName::X(number)), name);
+        }
+        assert_eq!(rt; reg_name(RegName::Pc), "pc");
+    }
+}

@@ -6,7 +6,7 @@ use Rattle.std.proofs.Math.Seq.{drop-length}
 use Rattle.std.specs.Str.Lines.{strip_carriage_return}
 use Rattle.img_text.specs.Lines.{is_blank, begins_with_feed, begins_with_word, onto_first, lines_of, words_of}
 
-and_no : (b : Bool) → (b && false) ≡ false
+pub and_no : (b : Bool) → (b && false) ≡ false
 and_no true = refl
 and_no false = refl
 
@@ -89,7 +89,7 @@ unfolding words_of
 words_of-blank bs n within blank = rw (add-one, drop-cons bs n 0, blank) refl
 
 -- a byte within a word
-word_goes_on : (b : ℕ) (bs : List ℕ) → is_blank b ≡ false → begins_with_word bs ≡ true → words_of (b ∷ bs) ≡ onto_first b (words_of bs)
+pub word_goes_on : (b : ℕ) (bs : List ℕ) → is_blank b ≡ false → begins_with_word bs ≡ true → words_of (b ∷ bs) ≡ onto_first b (words_of bs)
 unfolding words_of
 word_goes_on b bs here next = rw (here, next) refl
 

@@ -11,12 +11,12 @@ use Rattle.img_text.specs.Reading.{has_text}
 use Rattle.img_text.specs.Image.{IsImage, IsWhole, segments_of, joined, filled}
 
 -- whether text is among the segments from a place on
-pub has_text-at : (blocks : List Block) (i : ℕ) (b : Block) → i < length blocks → b ≡ get_or blocks i b → has_text (parts_of (drop i blocks)) ≡ (is_text_segment (Some b.segment) || has_text (parts_of (drop (i + 1) blocks)))
+pub has_text-at : (blocks : List Block) (i : ℕ) (b : Block) → i < length blocks → b ≡ get_or blocks i b → has_text (segments_of (parts_of (drop i blocks))) ≡ (is_text_segment (Some b.segment) || has_text (segments_of (parts_of (drop (i + 1) blocks))))
 has_text-at blocks i b within found =
-    at_drop_more (λ xs. has_text (parts_of xs)) blocks i b within ∙ ap (λ (x : Block). is_text_segment (Some x.segment) || has_text (parts_of (drop (i + 1) blocks))) (sym found)
+    at_drop_more (λ xs. has_text (segments_of (parts_of xs))) blocks i b within ∙ ap (λ (x : Block). is_text_segment (Some x.segment) || has_text (segments_of (parts_of (drop (i + 1) blocks)))) (sym found)
 
-pub has_text-end : (blocks : List Block) (i : ℕ) → length blocks ≤ i → has_text (parts_of (drop i blocks)) ≡ false
-has_text-end blocks i all = at_drop_all (λ xs. has_text (parts_of xs)) blocks i all
+pub has_text-end : (blocks : List Block) (i : ℕ) → length blocks ≤ i → has_text (segments_of (parts_of (drop i blocks))) ≡ false
+has_text-end blocks i all = at_drop_all (λ xs. has_text (segments_of (parts_of xs))) blocks i all
 
 -- the segments are those that were joined
 pub segments_of-joined : (ss : List Segment) (cs : List (List ℕ)) → length cs ≡ length ss → segments_of (joined ss cs) ≡ ss
@@ -50,7 +50,7 @@ pub AllByRecursion-push : {A : Type 0} (P : A → Type 0) (xs : List A) (y : A) 
 AllByRecursion-push P [] y all last = (last, tt)
 AllByRecursion-push P (x ∷ xs) y all last = (all.0, AllByRecursion-push P xs y all.1 last)
 
-AllByRecursion-both : {A : Type 0} (P : A → Type 0) (xs ys : List A) → AllByRecursion P xs → AllByRecursion P ys → AllByRecursion P (xs ++ ys)
+pub AllByRecursion-both : {A : Type 0} (P : A → Type 0) (xs ys : List A) → AllByRecursion P xs → AllByRecursion P ys → AllByRecursion P (xs ++ ys)
 AllByRecursion-both P [] ys front back = back
 AllByRecursion-both P (x ∷ xs) ys front back = (front.0, AllByRecursion-both P xs ys front.1 back)
 

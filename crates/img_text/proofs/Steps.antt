@@ -19,7 +19,7 @@ use Rattle.img_text.specs.Directives.{◌>>=◌, size_of, each_number, number_up
 use Rattle.img_text.specs.Reading.{Draft, AreSound, has_bounds, end_of, begin, put, start, value_bytes, applied, after_line, read_line, read_lines, IsRefusal, IsFault, numbered, whole_image}
 
 -- a step that went well
-bind_ok : {A B E : Type 0} (r : Result A E) (f : A → Result B E) (y : B) → (r >>= f) ≡ Ok y → (x : A) × (r ≡ Ok x) × (f x ≡ Ok y)
+pub bind_ok : {A B E : Type 0} (r : Result A E) (f : A → Result B E) (y : B) → (r >>= f) ≡ Ok y → (x : A) × (r ≡ Ok x) × (f x ≡ Ok y)
 bind_ok (Ok x) f y h = (x, refl, h)
 bind_ok (Err e) f y h = absurd (cc)
 
@@ -27,7 +27,7 @@ guard_ok : {A E : Type 0} (b : Bool) (r : Result A E) (e : E) (y : A) → cond b
 guard_ok true r e y h = (refl, h)
 guard_ok false r e y h = absurd (cc)
 
-both_true : (a b : Bool) → (a && b) ≡ true → (a ≡ true) × (b ≡ true)
+pub both_true : (a b : Bool) → (a && b) ≡ true → (a ≡ true) × (b ≡ true)
 both_true true b h = (refl, h)
 both_true false b h = absurd (cc)
 

@@ -4,3 +4,4 @@ pub mod Directives
 pub mod Reading
 pub mod Blocks
 pub mod Reader
+pub mod Writing

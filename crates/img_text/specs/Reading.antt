@@ -109,8 +109,9 @@ abbrev pub at_line : {A : Type 0} → ℕ → Result A Why → Result A ImageFau
 at_line line (Ok x) = Ok x
 at_line line (Err why) = Err (Bad line why)
 
-abbrev pub has_text : List Part → Bool
-has_text parts = list_any (λ p. is_text_segment (Some p.segment)) parts
+-- whether a segment is text
+abbrev pub has_text : List Segment → Bool
+has_text segments = list_any (λ s. is_text_segment (Some s)) segments
 
 -- the value, if there are at most 64 segments and 16 MiB of memory
 abbrev pub within_limits : {A : Type 0} → List Segment → A → Result A ImageFault
@@ -121,7 +122,7 @@ within_limits segments value =
 -- the image of these parts in order, where the last line is the one before this number
 unfoldable pub whole_image : ℕ → List Part → List (Option ℕ) → List (Option ℕ) → Result ImageRecord ImageFault
 whole_image line parts pcs sps =
-    if has_text parts then within_limits (segments_of parts) (record { parts = map (λ p. filled p.segment p.bytes) parts; pcs = pcs; sps = sps }) else Err (Bad line NoText)
+    if has_text (segments_of parts) then within_limits (segments_of parts) (record { parts = map (λ p. filled p.segment p.bytes) parts; pcs = pcs; sps = sps }) else Err (Bad line NoText)
 
 -- the image that the lines give, of which the first has this number
 unfoldable pub read_lines : ℕ → Draft → List (List ℕ) → Result ImageRecord ImageFault

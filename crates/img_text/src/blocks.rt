@@ -95,7 +95,7 @@ fn push_value(out: &mut Vec<u8>, width: Width, value: u64) -> Result<(), AllocEr
 
 /// Whether a segment holds text.
 pub fn has_text(blocks: &[Block]) -> bool
-    ensures { result ≡ has_text (parts_of blocks.now) }
+    ensures { result ≡ has_text (segments_of (parts_of blocks.now)) }
 {
     for block in blocks {
         if is_text(block.segment) {

@@ -100,6 +100,20 @@ impl Image {
         self.sps[usize::from(h.0)]
     }
 
+    /// Where each hart starts.
+    pub(crate) fn pcs(&self) -> &[Option<u64>]
+        ensures { result.now ≡ self.now.pcs }
+    {
+        self.pcs.as_slice()
+    }
+
+    /// The stack pointer with which each hart starts.
+    pub(crate) fn sps(&self) -> &[Option<u64>]
+        ensures { result.now ≡ self.now.sps }
+    {
+        self.sps.as_slice()
+    }
+
     /// The hart starts at this address.
     pub fn set_pc(&mut self, h: Hart, addr: u64)
         requires { h.0 < 16 }

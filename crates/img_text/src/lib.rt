@@ -1,4 +1,13 @@
-//! Images of memory as text, the format `kimg`: what a machine's memory and its harts start with.
+//! Images: what a machine's memory holds and where its harts start, and the text format `kimg` in which they are
+//! written down.
+//!
+//! - An *image* is a list of segments in order, each with a byte for every address, and for each hart number from 0
+//!   to 15 a pc and an sp to start with, or none.
+//! - A *line* of an image file is a directive and its numbers, or is skipped. A *draft* is what the lines so far give.
+//! - `specs/Lines.antt` says what the lines of a text and the words of a line are, for other text formats too, and
+//!   `specs/Reading.antt` which image a text means, or its first faulty line, or the first count over its limit.
+//!
+//! It stands on mach_base, and what boots a machine stands on it.
 #![tactic(auto)]
 
 mod blocks;
@@ -10,6 +19,7 @@ mod line;
 mod lines;
 mod reading;
 mod values;
+mod writing;
 
 pub use directive::{Directive, Width};
 pub use fault::{ImageFault, Why};
@@ -18,3 +28,7 @@ pub use line::line_of;
 pub use lines::{next_line, next_word};
 pub use reading::read_image;
 pub use values::Values;
+pub use writing::write_image;
+
+#[cfg(test)]
+mod tests;

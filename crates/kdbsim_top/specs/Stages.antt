@@ -1,9 +1,11 @@
 -- What the stages of a command answer.
-use Rattle.std.specs.Prelude.{◌≡◌, ℕ, List, Option, Some, None, Ok}
+use Rattle.std.specs.Prelude.{◌≡◌, ℕ, ◌≤◌, ◌⊎◌, List, Option, Some, None, Result, Ok, Err}
+use Rattle.mach_base.specs.declared.event.Ending.{Ending}
 use Rattle.img_text.specs.Image.{ImageRecord}
 use Rattle.img_text.specs.Reading.{image_of}
-use Rattle.io_edge.specs.Edge.{FileMap, HasRisen}
-use Rattle.kdbsim_top.specs.Inputs.{image_refusal, script_refusal, RefusesImage, RefusesScript}
+use Rattle.io_edge.specs.Edge.{FileMap, HasRisen, HasTakenPart}
+use Rattle.kdbsim_top.specs.Words.{Command}
+use Rattle.kdbsim_top.specs.Inputs.{image_refusal, script_refusal, HasImage, RefusesImage, RefusesScript}
 use Rattle.kdbsim_top.specs.declared.status.File.TheVariants.{Image, Script}
 use Rattle.kdbsim_top.specs.declared.status.Status.{Status}
 use Rattle.kdbsim_top.specs.declared.status.Status.TheVariants.{Done, Usage, ReadFault, BadImage, BadScript, TooLarge, Unbuilt, WriteFault, OutOfMemory}
@@ -42,3 +44,20 @@ FailsAtScript files name before after WriteFault = ⊥
 FailsAtScript files name before after (BadImage line why) = ⊥
 FailsAtScript files name before after (Unbuilt line) = ⊥
 FailsAtScript files name before after status = RefusesScript files name status
+
+-- why there is no run: its image or its script fails, or memory ran out
+abbrev pub FailsAtRun : Option FileMap → Command → ℕ → ℕ → Status → Type 0
+FailsAtRun files command before after status =
+    FailsAtImage files command.image before after status
+    ⊎ ((image : ImageRecord) × HasImage files command.image image × ((between : ℕ) × (before ≤ between) × FailsAtScript files command.script between after status))
+
+-- why a transcript isn't out: memory ran out and nothing was written, or the sink's count rose and a part is out
+abbrev pub IsWriteRefusal : Option (List ℕ) → List ℕ → Option (List ℕ) → ℕ → ℕ → Status → Type 0
+IsWriteRefusal taken text new before after OutOfMemory = new ≡ taken
+IsWriteRefusal taken text new before after WriteFault = HasTakenPart taken text new × HasRisen before after
+IsWriteRefusal taken text new before after status = ⊥
+
+-- the status of a run's answer
+abbrev pub status_of : Result Ending Status → Status
+status_of (Ok ending) = Done ending
+status_of (Err status) = status

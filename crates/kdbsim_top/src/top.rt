@@ -1,15 +1,16 @@
-ghost use Rattle.std.specs.Prelude.{◌≡◌, ◌≤◌, ◌↔◌, map, Some, None, MatchResult, OnErr, MatchOption};
+ghost use Rattle.std.specs.Prelude.{◌≡◌, ◌↔◌, ◌++◌, map, None, MatchResult, MatchOption, IfOk, IfErr};
+ghost use Rattle.std.specs.Option.{option_map};
 ghost use Rattle.std.specs.String.{string_bytes};
-ghost use Rattle.io_edge.specs.Edge.{FileMap};
 ghost use Rattle.kdbsim_top.specs.Words.{command_of};
-ghost use Rattle.kdbsim_top.specs.Causes.{Explains, IsSilent, IsUniRun, HasTaken};
+ghost use Rattle.kdbsim_top.specs.Causes.{Explains, IsSilent, IsUniRun};
+ghost use Rattle.kdbsim_top.specs.Stages.{FailsAtRun, IsWriteRefusal, status_of};
 ghost use Rattle.kdbsim_top.specs.declared.status.Status.TheVariants.{Usage};
 
 use crate::input::{image_input, script_input};
 use crate::run::{Told, run_uni};
 use crate::status::Status;
 use crate::words::{Operands, command_of};
-use io_edge::{Shelf, Sink};
+use io_edge::{Failed, Shelf, Sink};
 use mach_base::{Ending, OutOfMemory};
 use std::alloc::Global;
 
@@ -41,5 +42,57 @@ pub fn kdbsim<F: Shelf, O: Sink>(
             Ok(ending) => Status::Done(ending),
             Err(status) => status,
         },
+    }
+}
+
+/// The command `uni`.
+fn uni<F: Shelf, O: Sink>(
+    alloc: Global,
+    operands: Operands<'_>,
+    shelf: &mut F,
+    out: &mut O,
+) -> Result<Ending, Status>
+    ensures cause { Explains (record {
+        files = F.contents shelf.old; shelf_before = F.faults shelf.old; shelf_after = F.faults shelf.new;
+        taken_before = O.taken out.old; taken_after = O.taken out.new; sink_before = O.faults out.old; sink_after = O.faults out.new
+    }) (record { image = operands.entry.image.now; script = operands.entry.script.now }) (status_of result) }
+    ensures kept { F.contents shelf.new ≡ F.contents shelf.old }
+    ensures silent { IsSilent (status_of result) → O.taken out.new ≡ O.taken out.old }
+{
+    let told = run_files(alloc, operands, shelf)?;
+    write(out, told)
+}
+
+/// Reads the files and runs the machine; nothing is written.
+fn run_files<F: Shelf>(
+    alloc: Global,
+    operands: Operands<'_>,
+    shelf: &mut F,
+) -> Result<Told, Status>
+    ensures cause { MatchResult result
+        (λ told. IsUniRun (F.contents shelf.old) (record { image = operands.entry.image.now; script = operands.entry.script.now }) told.ending told.transcript.items)
+        (FailsAtRun (F.contents shelf.old) (record { image = operands.entry.image.now; script = operands.entry.script.now }) (F.faults shelf.old) (F.faults shelf.new)) }
+    ensures kept { F.contents shelf.new ≡ F.contents shelf.old }
+{
+    let image = image_input(alloc, shelf, operands.image)?;
+    let script = script_input(alloc, shelf, operands.script)?;
+    match run_uni(alloc, &image, script.as_slice()) {
+        Ok(told) => Ok(told),
+        Err(OutOfMemory) => Err(Status::OutOfMemory),
+    }
+}
+
+/// Puts the transcript into the sink, in one call.
+fn write<O: Sink>(out: &mut O, told: Told) -> Result<Ending, Status>
+    ensures ok { IfOk result (λ ending. (ending ≡ told.ending) × (O.taken out.new ≡ option_map (λ before. before ++ told.transcript.items) (O.taken out.old))) }
+    ensures err { IfErr result (IsWriteRefusal (O.taken out.old) told.transcript.items (O.taken out.new) (O.faults out.old) (O.faults out.new)) }
+{
+    let transcript = told.transcript.as_slice();
+    if let Err(OutOfMemory) = out.reserve(transcript.len()) {
+        return Err(Status::OutOfMemory);
+    }
+    match out.put(transcript) {
+        Ok(()) => Ok(told.ending),
+        Err(Failed) => Err(Status::WriteFault),
     }
 }

@@ -123,3 +123,44 @@ pub fn push_dec(out: &mut Vec<u8>, value: u64) -> Result<(), OutOfMemory>
     out.extend_from_slice(digits.as_bytes())?;
     Ok(())
 }
+
+#[cfg(test)]
+mod tests {
+    use super::*;
+    use std::test::Fail;
+
+    #[test]
+    fn reads_numbers(rt: HostRuntime) {
+        for (text, radix, want) in [
+            (b"10".as_slice(), 8, Ok(8)),
+            (b"face".as_slice(), 16, Ok(0xface)),
+            (b"0XfF".as_slice(), 10, Ok(255)),
+            (b"0x".as_slice(), 10, Err(NumFault::Empty)),
+            (b"".as_slice(), 16, Err(NumFault::Empty)),
+            (b"zz".as_slice(), 16, Err(NumFault::BadDigit { at: 0 })),
+            (b"0x1g".as_slice(), 10, Err(NumFault::BadDigit { at: 3 })),
+            (b"18446744073709551615".as_slice(), 10, Ok(u64::MAX)),
+            (
+                b"18446744073709551616".as_slice(),
+                10,
+                Err(NumFault::TooLarge),
+            ),
+        ] {
+            assert_eq!(rt; parse_number(text, radix), want);
+        }
+    }
+
+    #[test]
+    fn writes_numbers(rt: HostRuntime) -> Result<(), Fail> {
+        let mut out = Vec::new(rt.alloc());
+        push_hex(&mut out, 0x1a0f, 6)?;
+        push_dec(&mut out, 1_000_000)?;
+        push_hex(&mut out, u64::MAX, 16)?;
+        push_dec(&mut out, 0)?;
+        assert_eq!(rt;
+            out.as_slice(),
+            b"001a0f1000000ffffffffffffffff0".as_slice()
+        );
+        Ok(())
+    }
+}

@@ -3,4 +3,5 @@ pub mod Natural
 pub mod Lookups
 pub mod Writes
 pub mod Numbers
+pub mod Stores
 pub mod Built

@@ -1,14 +1,17 @@
 -- What a write to a part leaves of memory.
-use Rattle.std.proofs.Common.{◌≡◌, ℕ, zero, suc, ◌+◌, ◌-◌, ◌<◌, inl, inr, Bool, true, false, cond, eqb, List, [], ◌∷◌, length, get_or, set, refl, sym, ap, ◌∙◌, arith}
-use Rattle.std.specs.Prelude.{Option, Some}
+use Rattle.std.proofs.Common.{◌≡◌, ℕ, zero, suc, ◌+◌, ◌-◌, ◌<◌, ◌≤◌, inl, inr, Bool, true, false, cond, eqb, List, [], ◌∷◌, length, get_or, set, refl, sym, ap, ◌∙◌, arith}
+use Rattle.std.specs.Prelude.{Option, Some, None}
 use Rattle.std.specs.List.{AllByRecursion}
 use Rattle.std.specs.Ordering.{nat_cmp, eq_by_cmp}
 use Rattle.std.specs.Cmp.{nat_cmp_total, unsigned_tied}
 use Rattle.std.specs.FinMap.{find, insert, from_entries, get-insert, get-from_entries, same_map, nat_cmp-IsAntisymmetric}
 use Rattle.std.proofs.lemmas.Bool.{eq-eqb, ne_eqb, cases_lt, cases_eq}
-use Rattle.std.proofs.lemmas.List.{get_or-set_same, get_or-set_other, length-set}
-use Rattle.mach_base.specs.Machine.{Part, memory_of, entries_of, numbered}
-use Rattle.mem_map.specs.Parts.{IsWhole, AreParts, segments_of, IsFirstAt}
+use Rattle.std.proofs.lemmas.List.{get_or-set_same, get_or-set_other, length-set, set-set, set-get_or}
+use Rattle.mach_base.specs.Machine.{Memory, Part, memory_of, entries_of, numbered, holds}
+use Rattle.mach_base.specs.declared.event.Fault.{Fault}
+use Rattle.mem_map.specs.declared.rights.Access.TheVariants.{Store}
+use Rattle.mem_map.specs.Access.{access_fault, store_fault, stored, with_bytes, byte_of}
+use Rattle.mem_map.specs.Parts.{IsWhole, AreParts, IsAllowedIn, segments_of, IsFirstAt, with_number}
 use Rattle.mem_map.proofs.Natural.{whole_at}
 use Rattle.mem_map.proofs.Entries.{either, find-append, find-part_outside, find-numbered_below, find-numbered_past, find-numbered_at, first_behind, holds-true}
 
@@ -112,3 +115,57 @@ memory_of-written ps addr i place byte d q are first e at is =
     ∙ ap (λ k. memory_of (set ps i (put_byte d k byte))) at
     ∙ ap (λ p. memory_of (set ps i (put_byte p (addr - p.segment.base) byte))) e
     ∙ memory_of-put ps addr i byte d are first
+
+length-with_number : (bytes : List ℕ) (place n value : ℕ) → length (with_number bytes place n value) ≡ length bytes
+length-with_number bytes place zero value = refl
+length-with_number bytes place (suc n) value = length-set (with_number bytes place n value) (place + n) (byte_of value n) ∙ length-with_number bytes place n value
+
+-- a part that is replaced by one of the same segment is found as before
+first-set : (ps : List Part) (addr i : ℕ) (d q : Part) → IsFirstAt ps addr i → q.segment ≡ (get_or ps i d).segment → IsFirstAt (set ps i q) addr i
+first-set ps addr i d q first e = record {
+  within = rw length-set first.within;
+  here = λ p. ap (λ x. holds x.segment addr) (get_or-set_same ps i q p first.within) ∙ ap (λ s. holds s addr) e ∙ first.here d;
+  before = λ k p h. ap (λ x. holds x.segment addr) (get_or-set_other ps i k q p (λ e'. omega arith)) ∙ first.before k p h;
+}
+
+abbrev put_number : Part → ℕ → ℕ → ℕ → Part
+put_number p place n value = record p { bytes = with_number p.bytes place n value }
+
+abbrev with_byte : Memory → ℕ → ℕ → Memory
+with_byte m addr byte = record m { bytes = insert m.bytes addr byte }
+
+-- the lowest bytes of a number that are written through the part, one after another
+memory_of-numbered : (n : ℕ) (ps : List Part) (addr i place value : ℕ) (d : Part) → AreParts ps → ((k : ℕ) → k < n → IsFirstAt ps (addr + k) i) → i < length ps → d.segment.base ≤ addr → d ≡ get_or ps i d → place ≡ addr - d.segment.base → memory_of (set ps i (put_number d place n value)) ≡ record (memory_of ps) { bytes = with_bytes (memory_of ps).bytes addr n value }
+memory_of-numbered zero ps addr i place value d are first within low e at = ap (λ p. memory_of (set ps i p)) e ∙ ap memory_of (set-get_or ps i d)
+memory_of-numbered (suc n) ps addr i place value d are first within low e at =
+    let so_far = put_number d place n value in
+    let ps' = set ps i so_far in
+    let whole : IsWhole (get_or ps i d) = whole_at ps i d are.whole within in
+    let whole' : IsWhole so_far = length-with_number d.bytes place n value ∙ ap (λ p. length p.bytes) e ∙ whole ∙ ap (λ p. p.segment.len) (sym e) in
+    let are' = are-set ps i d so_far are (ap (λ p. p.segment) e) whole' in
+    let first' = first-set ps (addr + n) i d so_far (first n (omega arith)) (ap (λ p. p.segment) e) in
+    let at' : place + n ≡ addr + n - d.segment.base = omega arith in
+    ap memory_of (sym (set-set ps i so_far (put_byte so_far (place + n) (byte_of value n))))
+    ∙ memory_of-written ps' (addr + n) i (place + n) (byte_of value n) so_far (put_byte so_far (place + n) (byte_of value n)) are' first' (sym (get_or-set_same ps i so_far so_far within)) at' refl
+    ∙ ap (λ m. with_byte m (addr + n) (byte_of value n)) (memory_of-numbered n ps addr i place value d are (λ k h. first k (omega arith)) within low e at)
+
+pub are-stored : (ps : List Part) (i place width value : ℕ) (d q : Part) → AreParts ps → i < length ps → d ≡ get_or ps i d → q ≡ put_number d place width value → AreParts (set ps i q)
+are-stored ps i place width value d q are within e is =
+    let whole : IsWhole (get_or ps i d) = whole_at ps i d are.whole within in
+    let same : IsWhole (put_number d place width value) = length-with_number d.bytes place width value ∙ ap (λ p. length p.bytes) e ∙ whole ∙ ap (λ p. p.segment.len) (sym e) in
+    are-set ps i d q are (ap (λ p. p.segment) is ∙ ap (λ p. p.segment) e) (rw is same)
+
+-- the number that is written through the part
+pub memory_of-stored : (ps : List Part) (addr width i place value : ℕ) (d q : Part) → AreParts ps → IsAllowedIn ps Store addr width i → d ≡ get_or ps i d → place ≡ addr - d.segment.base → q ≡ put_number d place width value → memory_of (set ps i q) ≡ stored (memory_of ps) addr width value
+unfolding stored
+memory_of-stored ps addr width i place value d q are may e at is =
+    let low : d.segment.base ≤ addr = rw e (may.low d) in
+    ap (λ p. memory_of (set ps i p)) is ∙ memory_of-numbered width ps addr i place value d are may.first may.within low e at
+
+pub store_fault-Some : (m : Memory) (addr width : ℕ) (fault : Fault) → access_fault m Store addr width ≡ Some fault → store_fault m addr width ≡ Some fault
+unfolding store_fault
+store_fault-Some m addr width fault e = e
+
+pub store_fault-None : (ps : List Part) (addr width i : ℕ) → IsAllowedIn ps Store addr width i → store_fault (memory_of ps) addr width ≡ None
+unfolding store_fault
+store_fault-None ps addr width i may = may.faultless

@@ -1,3 +1,3 @@
 pub mod Access
-pub mod Code
 pub mod Parts
+pub mod Laws

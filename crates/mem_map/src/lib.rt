@@ -10,9 +10,11 @@
 //! instructions and the debugger stand on it.
 #![tactic(auto)]
 
+mod laws;
 mod memory;
 mod piece;
 mod rights;
 
+pub use laws::{store_changes_its_bytes, store_keeps_faults, store_keeps_text, stored_is_loaded};
 pub use mach_base::{Kind, Segment};
 pub use memory::Map;

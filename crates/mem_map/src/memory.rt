@@ -3,7 +3,7 @@ ghost use Rattle.std.specs.Bool.{OnTrue, OnFalse};
 ghost use Rattle.std.specs.Result.{result_err};
 ghost use Rattle.std.specs.FinMap as map;
 ghost use Rattle.mach_base.specs.Machine.{AreSegments, byte_at, is_text_word, memory_of};
-ghost use Rattle.mem_map.specs.Access.{IsWidth, access_fault, fetched, loaded, store_fault, stored};
+ghost use Rattle.mem_map.specs.Access.{IsWidth, access_fault, fault_at, fetched, loaded, store_fault, stored};
 ghost use Rattle.mem_map.specs.Parts.{AreContents, AreParts, IsAllowedIn, IsFirstAt, NoneHolds, parts_of, zero_memory};
 
 use crate::piece::Piece;
@@ -20,7 +20,7 @@ pub struct Map {
 
 impl Model for Map {
     ghost use Rattle.mach_base.specs.Machine.{Memory, memory_of};
-    ghost use Rattle.mem_map.specs.Code.{memory_code};
+    ghost use Rattle.mach_base.specs.Codes.{memory_code};
     ghost use Rattle.mem_map.specs.Parts.{AreParts};
 
     ghost Value = { Memory };
@@ -39,33 +39,36 @@ fn piece_at(pieces: &[Piece], addr: u64) -> Option<usize>
     pieces.iter().position(|piece| piece.holds(addr))
 }
 
+/// The place of the piece that the access falls into, or the cause of its fault.
+fn piece_or_cause(pieces: &[Piece], access: Access, addr: u64, width: u8) -> Result<usize, Cause>
+    requires parts { AreParts pieces.now }
+    requires width { IsWidth width }
+    ensures { MatchResult result (IsAllowedIn pieces.now access addr width) (λ cause. access_fault (memory_of pieces.now) access addr width ≡ fault_at cause addr) }
+{
+    if addr % u64::from(width) != 0 {
+        return Err(Cause::Misaligned);
+    }
+    match piece_at(pieces, addr) {
+        None => Err(Cause::Unmapped),
+        Some(i) => {
+            if is_allowed(access, pieces[i].kind()) {
+                Ok(i)
+            } else {
+                Err(Cause::NoRight)
+            }
+        }
+    }
+}
+
 /// The place of the piece that the access falls into, or its fault.
 fn allowed_piece(pieces: &[Piece], access: Access, addr: u64, width: u8) -> Result<usize, Fault>
     requires parts { AreParts pieces.now }
     requires width { IsWidth width }
     ensures { MatchResult result (IsAllowedIn pieces.now access addr width) (λ fault. access_fault (memory_of pieces.now) access addr width ≡ Some fault) }
 {
-    if addr % u64::from(width) != 0 {
-        return Err(Fault {
-            cause: Cause::Misaligned,
-            addr,
-        });
-    }
-    match piece_at(pieces, addr) {
-        None => Err(Fault {
-            cause: Cause::Unmapped,
-            addr,
-        }),
-        Some(i) => {
-            if is_allowed(access, pieces[i].kind()) {
-                Ok(i)
-            } else {
-                Err(Fault {
-                    cause: Cause::NoRight,
-                    addr,
-                })
-            }
-        }
+    match piece_or_cause(pieces, access, addr, width) {
+        Ok(i) => Ok(i),
+        Err(cause) => Err(Fault { cause, addr }),
     }
 }
 
@@ -109,6 +112,42 @@ impl Map {
         Ok(piece.word(piece.place(addr)))
     }
 
+    /// The number of `width` bytes from the address on, in data or rodata, zero-extended. The width is 1, 2, 4 or 8.
+    pub fn load(&self, addr: u64, width: u8) -> Result<u64, Fault>
+        requires { IsWidth width }
+        ensures value { result ≡ loaded self.now addr width }
+        ensures fits { IfOk result (λ value. value < 256 ^ width) }
+    {
+        let pieces = self.pieces.as_slice();
+        let i = allowed_piece(pieces, Access::Load, addr, width)?;
+        let piece = &pieces[i];
+        Ok(piece.number(piece.place(addr), width))
+    }
+
+    /// Writes the lowest `width` bytes of the number from the address on, in data. The width is 1, 2, 4 or 8. A fault
+    /// changes nothing.
+    pub fn store(&mut self, addr: u64, width: u8, value: u64) -> Result<(), Fault>
+        requires { IsWidth width }
+        ensures fault { result_err result ≡ store_fault self.old addr width }
+        ensures stored { OnOk result (self.new ≡ stored self.old addr width value) }
+        ensures unchanged { OnErr result (self.new ≡ self.old) }
+    {
+        let i = allowed_piece(self.pieces.as_slice(), Access::Store, addr, width)?;
+        let piece = &mut self.pieces[i];
+        let place = piece.place(addr);
+        piece.put_number(place, width, value);
+        Ok(())
+    }
+
+    /// The fault that a store of this width would meet, if any. The width is 1, 2, 4 or 8.
+    pub fn storable(&self, addr: u64, width: u8) -> Result<(), Fault>
+        requires { IsWidth width }
+        ensures { result_err result ≡ store_fault self.now addr width }
+    {
+        let _place = allowed_piece(self.pieces.as_slice(), Access::Store, addr, width)?;
+        Ok(())
+    }
+
     /// The byte at an address, whatever its segment's kind; None exactly where it isn't mapped.
     pub fn peek(&self, addr: u64) -> Option<u8>
         ensures value { result ≡ byte_at self.now addr }
@@ -149,6 +188,14 @@ impl Map {
     {
         allowed_piece(self.pieces.as_slice(), Access::Fetch, addr, 4).is_ok()
     }
+
+    /// The segments keep their bounds, their order and the limits, whatever was done to the map: at most 64 segments
+    /// and 16 MiB. The call does nothing; its contract says so to callers.
+    pub fn keeps_limits(&self)
+        ensures { AreSegments self.now.segments }
+    {
+        let _pieces = &self.pieces;
+    }
 }
 
 impl Peek for Map {
@@ -166,3 +213,6 @@ impl Peek for Map {
         Map::is_text(self, addr)
     }
 }
+
+#[cfg(test)]
+mod tests;

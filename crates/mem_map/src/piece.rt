@@ -1,4 +1,4 @@
-ghost use Rattle.std.specs.Prelude.{◌≡◌, ℕ, ◌+◌, ◌-◌, ◌<◌, ◌≤◌, IfOk, IsTrue, length, slice_index, slice_set};
+ghost use Rattle.std.specs.Prelude.{◌≡◌, ℕ, ◌+◌, ◌-◌, ◌^◌, ◌<◌, ◌≤◌, IfOk, IsTrue, length, slice_index, slice_set};
 ghost use Rattle.mach_base.specs.Machine.{holds};
 ghost use Rattle.mem_map.specs.Access.{IsWidth};
 ghost use Rattle.mem_map.specs.Parts.{zero_part, number_at, with_number};
@@ -118,7 +118,8 @@ impl Piece {
     pub fn number(&self, place: usize, width: u8) -> u64
         requires width { IsWidth width }
         requires inside { place + width ≤ length self.now.bytes }
-        ensures { result ≡ number_at self.now.bytes place width }
+        ensures value { result ≡ number_at self.now.bytes place width }
+        ensures fits { result < 256 ^ width }
     {
         match width {
             1 => u64::from(self.byte(place)),

@@ -1,0 +1,46 @@
+//! The program: it hands its words, the files and standard output to the top call, prints the status line where there
+//! is one, and ends with the status number.
+#![tactic(auto)]
+
+use io_edge::{DirShelf, OutSink};
+use kdbsim_top::{Status, kdbsim, status_code, status_line};
+use std::process::ExitCode;
+use std::{env, io};
+
+fn main(rt: HostRuntime) -> ExitCode {
+    let status = answer(&rt);
+    report(&rt, &status);
+    ExitCode::from(status_code(&status))
+}
+
+/// The answer to the program's words. Words that aren't text are no command.
+fn answer(rt: &HostRuntime) -> Status {
+    match words(rt) {
+        Ok(words) => {
+            let mut shelf = DirShelf::new(rt);
+            let mut out = OutSink::new(rt);
+            kdbsim(rt.alloc(), words.as_slice(), &mut shelf, &mut out)
+        }
+        Err(error) if error.kind() == io::ErrorKind::OutOfMemory => Status::OutOfMemory,
+        Err(_) => Status::Usage,
+    }
+}
+
+/// The program's words after its name.
+fn words(rt: &HostRuntime) -> io::Result<Vec<String>> {
+    let mut words = Vec::new(rt.alloc());
+    for word in env::args(rt)?.skip(1) {
+        words.push(word)?;
+    }
+    Ok(words)
+}
+
+/// Prints the line of a status other than Done. A line that can't be made or printed is left out; the number stays.
+fn report(rt: &HostRuntime, status: &Status) {
+    if let Ok(line) = status_line(rt.alloc(), status) {
+        if !line.as_bytes().is_empty() {
+            let _ = rt.write_all(line.as_bytes());
+            let _ = rt.write_all(b"\n");
+        }
+    }
+}
