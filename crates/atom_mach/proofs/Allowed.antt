@@ -40,9 +40,9 @@ pub does-Session-none : (s : State) (h : Hart) → opening s.mode s.machine h.0 
 unfolding does
 does-Session-none s h e = rw e (same (is_hart s.machine h.0))
   where
-  same : (b : Bool) → ◌≡◌ {A = Option Done} (cond b None None) None
-  same true = refl
-  same false = refl
+    same : (b : Bool) → ◌≡◌ {A = Option Done} (cond b None None) None
+    same true = refl
+    same false = refl
 
 -- with a reason it opens
 pub does-Session : (s : State) (h : Hart) (reason : Reason) → nat_lt h.0 (length s.machine.harts) ≡ true → opening s.mode s.machine h.0 0 ≡ Some reason → does s (Session h) ≡ Some (session s.machine h reason)
@@ -55,8 +55,8 @@ late_of_one n zero zero e = and_false (nat_lt zero n)
 late_of_one n zero (suc zero) e = rw e refl
 late_of_one n zero (suc (suc late)) e = rw e (and_last (nat_lt 0 1) (not (suc (suc late) == 0)) _ (grind (arith, nat_tests)))
   where
-  and_last : (a b c : Bool) → c ≡ false → (a && (b && c)) ≡ false
-  and_last a b c p = rw p (ap (λ x. a && x) (and_false b) ∙ and_false a)
+    and_last : (a b c : Bool) → c ≡ false → (a && (b && c)) ≡ false
+    and_last a b c p = rw p (ap (λ x. a && x) (and_false b) ∙ and_false a)
 
 -- with one hart nobody can be late
 pub does-Enter-one : (s : State) (m : Hart) (late : ℕ) → length s.machine.harts ≡ 1 → does s (Enter m late) ≡ None

@@ -39,9 +39,9 @@ pass_weight Free h e = absurd (false≢true e)
 pass_weight (Hold m late) h e = absurd (false≢true e)
 pass_weight (Pass m late again) h e = (rw (e, (and_true (m.0 == 0) (late == 0) h).1) (either again), refl)
   where
-  either : (b : Bool) → weight (cond b (Back m late) Free) ≡ 1
-  either true = refl
-  either false = refl
+    either : (b : Bool) → weight (cond b (Back m late) Free) ≡ 1
+    either true = refl
+    either false = refl
 pass_weight (Back m late) h e = absurd (false≢true e)
 pass_weight (Leave m late) h e = absurd (false≢true e)
 pass_weight (Over ending) h e = absurd (false≢true e)
@@ -67,9 +67,9 @@ less-Instr s d alone e =
     let t = taken (is_hart s.machine 0 && (may_run s 0 || may_pass s 0)) _ d e in
     let p = and_true (is_hart s.machine 0) (may_run s 0 || may_pass s 0) t.0 in
     rw (← t.1)
-      (either_case (may_run s 0) (may_pass s 0) p.1
-        (λ runs_is. let w = free_weight s.mode (may_run-alone s alone runs_is).0 in let below = below_limit s runs_is in omega arith)
-        (λ passes. let w = pass_weight s.mode alone (and_true (owes s.mode 0) _ passes).0 in omega arith))
+    (either_case (may_run s 0) (may_pass s 0) p.1
+    (λ runs_is. let w = free_weight s.mode (may_run-alone s alone runs_is).0 in let below = below_limit s runs_is in omega arith)
+    (λ passes. let w = pass_weight s.mode alone (and_true (owes s.mode 0) _ passes).0 in omega arith))
 
 less-Off : (s : State) (ending : Ending) (d : Done) → ended s ending ≡ Some d → work_left d.next < work_left s
 less-Off s ending d e =
@@ -77,13 +77,13 @@ less-Off s ending d e =
     let free = free_is s.mode (and_true (is_free s.mode) _ t.0).0 in
     rw (← t.1, free) (omega arith)
   where
-  free_is : (mode : Mode) → is_free mode ≡ true → mode ≡ Free
-  free_is Free h = refl
-  free_is (Hold m late) h = absurd (false≢true h)
-  free_is (Pass m late again) h = absurd (false≢true h)
-  free_is (Back m late) h = absurd (false≢true h)
-  free_is (Leave m late) h = absurd (false≢true h)
-  free_is (Over over) h = absurd (false≢true h)
+    free_is : (mode : Mode) → is_free mode ≡ true → mode ≡ Free
+    free_is Free h = refl
+    free_is (Hold m late) h = absurd (false≢true h)
+    free_is (Pass m late again) h = absurd (false≢true h)
+    free_is (Back m late) h = absurd (false≢true h)
+    free_is (Leave m late) h = absurd (false≢true h)
+    free_is (Over over) h = absurd (false≢true h)
 
 pub less-AllHalted : (s : State) (d : Done) → does s (Off AllHalted) ≡ Some d → work_left d.next < work_left s
 unfolding does
@@ -96,9 +96,9 @@ less-StepLimit s d e = less-Off s StepLimit d e
 weight_of_go : (s : Machine) (m : Hart) → weight (mode_of_go s m 0) ≤ 2
 weight_of_go s m = by_test (stops_again (trap s m.0))
   where
-  by_test : (b : Bool) → weight (cond b (Pass m 0 false) Free) ≤ 2
-  by_test true = omega arith
-  by_test false = omega arith
+    by_test : (b : Bool) → weight (cond b (Pass m 0 false) Free) ≤ 2
+    by_test true = omega arith
+    by_test false = omega arith
 
 after_le : (o : Outcome) (text : List ℕ) (s : Machine) (m : Hart) (rest : Done) (bound : ℕ) → work_left rest.next ≤ bound → (s.limit - s.steps) + 3 * length s.unread + 2 ≤ bound → work_left (after_line o text s m rest).next ≤ bound
 after_le Stay text s m rest bound le lt = le
@@ -110,8 +110,8 @@ unfolding session_lines line_said
 lines_work m [] s e = rw e (omega arith)
 lines_work m (line ∷ rest) s e =
     after_le (line_said line (with_read s rest)).outcome (line_text line (with_read s rest)) (with_read s rest) m (session_lines m rest (with_read s rest)) ((s.limit - s.steps) + 3 * length (line ∷ rest))
-      (let more = lines_work m rest (with_read s rest) refl in omega arith)
-      (omega arith)
+    (let more = lines_work m rest (with_read s rest) refl in omega arith)
+    (omega arith)
 
 heavy : (mode : Mode) → ending_of mode ≡ None → 0 < weight mode
 heavy Free e = omega arith

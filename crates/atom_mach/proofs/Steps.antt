@@ -52,9 +52,9 @@ pub all_halted-one : (cs : List Context) (d : Context) → length cs ≡ 1 → a
 all_halted-one [] d e = absurd (omega arith)
 all_halted-one (c ∷ []) d e = alone c.halted
   where
-  alone : (b : Bool) → (b && true) ≡ b
-  alone true = refl
-  alone false = refl
+    alone : (b : Bool) → (b && true) ≡ b
+    alone true = refl
+    alone false = refl
 all_halted-one (c ∷ k ∷ cs) d e = absurd (omega arith)
 
 -- an instruction that is allowed
@@ -62,16 +62,16 @@ pub does-Instr : (s : State) (h : Hart) → h.0 < length s.machine.harts → (ma
 unfolding does
 does-Instr s h lt e = cond_true (is_hart s.machine h.0 && (may_run s h.0 || may_pass s h.0)) _ _ (both (is_hart s.machine h.0) (may_run s h.0 || may_pass s h.0) (search rules) e)
   where
-  both : (a b : Bool) → a ≡ true → b ≡ true → (a && b) ≡ true
-  both a b p q = rw (p, q) refl
+    both : (a b : Bool) → a ≡ true → b ≡ true → (a && b) ≡ true
+    both a b p q = rw (p, q) refl
 
 -- one that isn't
 pub does-Instr-not : (s : State) (h : Hart) → may_run s h.0 ≡ false → may_pass s h.0 ≡ false → does s (Instr h) ≡ None
 unfolding does
 does-Instr-not s h e f = cond_false (is_hart s.machine h.0 && (may_run s h.0 || may_pass s h.0)) _ _ (neither (is_hart s.machine h.0) (may_run s h.0) (may_pass s h.0) e f)
   where
-  neither : (a b c : Bool) → b ≡ false → c ≡ false → (a && (b || c)) ≡ false
-  neither a b c p q = rw (p, q) (and_false a)
+    neither : (a b c : Bool) → b ≡ false → c ≡ false → (a && (b || c)) ≡ false
+    neither a b c p q = rw (p, q) (and_false a)
 
 late_none : (b : Bool) (late : ℕ) → IsTrue (b && (late == 0)) → has_bit late 0 ≡ true → ⊥
 late_none false late h e = false≢true h
@@ -91,10 +91,10 @@ none_fault : (c : Context) (r : Result ℕ Fault) → trap_of_fetched c r ≡ No
 none_fault c (Err f) e = absurd (cc)
 none_fault c (Ok word) e = by_word (word == ebreak_word) (word_fault c word) e
   where
-  by_word : (b : Bool) (f : Option Fault) → cond b (Some Compiled) (option_map FaultReason f) ≡ None → f ≡ None
-  by_word true f e = absurd (cc)
-  by_word false None e = refl
-  by_word false (Some f) e = absurd (cc)
+    by_word : (b : Bool) (f : Option Fault) → cond b (Some Compiled) (option_map FaultReason f) ≡ None → f ≡ None
+    by_word true f e = absurd (cc)
+    by_word false None e = refl
+    by_word false (Some f) e = absurd (cc)
 
 none_behind : (p : Option ℕ) (r : Option Reason) → breakpoint_or p r ≡ None → r ≡ None
 none_behind None r e = e
@@ -110,10 +110,10 @@ unfolding trap fault_of
 fault_of-trap s h opened awake e =
     none_fault (context_at s h) (fetched_at s h) (none_behind (enabled_place (context_at s h).pc 0 s.places) _ (behind s.opened (h == 0) (context_at s h).halted _ opened awake e))
   where
-  behind : (a b c : Bool) (r : Option Reason) → a ≡ true → c ≡ false → cond (not a && b) (Some Start) (cond c None r) ≡ None → r ≡ None
-  behind true b false r p q e = e
-  behind true b true r p q e = absurd (false≢true (sym q))
-  behind false b c r p q e = absurd (false≢true p)
+    behind : (a b c : Bool) (r : Option Reason) → a ≡ true → c ≡ false → cond (not a && b) (Some Start) (cond c None r) ≡ None → r ≡ None
+    behind true b false r p q e = e
+    behind true b true r p q e = absurd (false≢true (sym q))
+    behind false b c r p q e = absurd (false≢true p)
 
 -- the hart that may execute is in the free machine, and has no fault
 pub may_run-alone : (s : State) → IsTrue (is_alone s.mode) → may_run s 0 ≡ true → (s.mode ≡ Free) × (fault_of s.machine 0 ≡ None)
@@ -127,12 +127,12 @@ may_run-alone s alone e =
     let no_trap : trap_in s.mode s.machine 0 ≡ None = is_none-None (trap_in s.mode s.machine 0) t.1 in
     (free.0, fault_of-trap s.machine 0 free.1 (not_true c.halted q.0) (in_free s.mode s.machine free.0 no_trap))
   where
-  not_true : (b : Bool) → not b ≡ true → b ≡ false
-  not_true true e = absurd (false≢true e)
-  not_true false e = refl
+    not_true : (b : Bool) → not b ≡ true → b ≡ false
+    not_true true e = absurd (false≢true e)
+    not_true false e = refl
 
-  in_free : (mode : Mode) (s : Machine) → mode ≡ Free → trap_in mode s 0 ≡ None → trap s 0 ≡ None
-  in_free mode s e h = rw e at h
+    in_free : (mode : Mode) (s : Machine) → mode ≡ Free → trap_in mode s 0 ≡ None → trap s 0 ≡ None
+    in_free mode s e h = rw e at h
 
 -- a list of one context gives it, whatever stands for none
 pub context_one : (cs : List Context) (d e : Context) → length cs ≡ 1 → get_or cs 0 d ≡ get_or cs 0 e

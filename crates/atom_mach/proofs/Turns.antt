@@ -116,8 +116,8 @@ free_moves s free one a b c f g =
     let take = rw free at (no_intr s one a) in
     let run = rw (free, no_trap) at ((or_false (may_run s 0) (may_pass s 0) (no_instr s one c)).0) in
     stuck_tests s.machine.opened (context_at s.machine 0).halted (is_takeable (context_at s.machine 0)) (nat_lt s.machine.steps s.machine.limit) (nat_le s.machine.limit s.machine.steps)
-      (trap-opened s.machine no_trap) (above_is s.machine.limit s.machine.steps) take run
-      (sym halted_is ∙ halted_none s f free) (rw halted_is at (limit_none s g free))
+    (trap-opened s.machine no_trap) (above_is s.machine.limit s.machine.steps) take run
+    (sym halted_is ∙ halted_none s f free) (rw halted_is at (limit_none s g free))
 
 pass_moves : (s : State) (m : Hart) (late : ℕ) (again : Bool) → s.mode ≡ Pass m late again → ((m.0 == 0) && (late == 0)) ≡ true → length s.machine.harts ≡ 1 → does s (Session h0) ≡ None → does s (Instr h0) ≡ None → ⊥
 pass_moves s m late again mode alone one b c =

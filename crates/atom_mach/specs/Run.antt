@@ -21,7 +21,7 @@ Runs rule s (step ∷ steps) text last =
 unfoldable pub first_allowed : State → Option AStep
 first_allowed s =
     find (λ step. is_some (does s step))
-      (Intr (record { 0 = 0 }) ∷ Session (record { 0 = 0 }) ∷ Instr (record { 0 = 0 }) ∷ Off AllHalted ∷ Off StepLimit ∷ [])
+    (Intr (record { 0 = 0 }) ∷ Session (record { 0 = 0 }) ∷ Instr (record { 0 = 0 }) ∷ Off AllHalted ∷ Off StepLimit ∷ [])
 
 -- the first allowed step leads there and prints this
 abbrev pub Turns : State → List ℕ → State → Type 0

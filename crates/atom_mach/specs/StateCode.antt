@@ -12,10 +12,10 @@ use Rattle.atom_mach.specs.State.{State}
 abbrev pub context_code : Coded Context
 context_code =
     code_by (List ℕ × (ℕ × (ℕ × (ℕ × (Bool × (Bool × (Bool × Option ℕ)))))))
-      (coded× (coded_list coded_ℕ) (coded× coded_ℕ (coded× coded_ℕ (coded× coded_ℕ (coded× coded_bool (coded× coded_bool (coded× coded_bool (coded_option coded_ℕ))))))))
-      (λ c. (c.registers, (c.pc, (c.epc, (c.vector, (c.masked, (c.pending, (c.halted, c.reservation))))))))
-      (λ t. record { registers = t.0; pc = t.1.0; epc = t.1.1.0; vector = t.1.1.1.0; masked = t.1.1.1.1.0; pending = t.1.1.1.1.1.0; halted = t.1.1.1.1.1.1.0; reservation = t.1.1.1.1.1.1.1 })
-      (λ _. refl)
+    (coded× (coded_list coded_ℕ) (coded× coded_ℕ (coded× coded_ℕ (coded× coded_ℕ (coded× coded_bool (coded× coded_bool (coded× coded_bool (coded_option coded_ℕ))))))))
+    (λ c. (c.registers, (c.pc, (c.epc, (c.vector, (c.masked, (c.pending, (c.halted, c.reservation))))))))
+    (λ t. record { registers = t.0; pc = t.1.0; epc = t.1.1.0; vector = t.1.1.1.0; masked = t.1.1.1.1.0; pending = t.1.1.1.1.1.0; halted = t.1.1.1.1.1.1.0; reservation = t.1.1.1.1.1.1.1 })
+    (λ _. refl)
 
 abbrev pub place_code : Coded Place
 place_code = code_by (ℕ × Bool) (coded× coded_ℕ coded_bool) (λ p. (p.addr, p.enabled)) (λ t. record { addr = t.0; enabled = t.1 }) (λ _. refl)
@@ -29,10 +29,10 @@ symbol_code = code_by (ℕ × List ℕ) (coded× coded_ℕ (coded_list coded_ℕ
 abbrev pub machine_code : Coded Machine
 machine_code =
     code_by (List Context × (Memory × (List (Option Place) × (List (List ℕ × List ℕ) × (List Macro × (Bool × (List Symbol × (ℕ × (ℕ × (List (List ℕ) × (ℕ × (ℕ × Bool))))))))))))
-      (coded× (coded_list context_code) (coded× memory_code (coded× (coded_list (coded_option place_code)) (coded× (coded_list (coded× (coded_list coded_ℕ) (coded_list coded_ℕ))) (coded× (coded_list macro_code) (coded× coded_bool (coded× (coded_list symbol_code) (coded× coded_ℕ (coded× coded_ℕ (coded× (coded_list (coded_list coded_ℕ)) (coded× coded_ℕ (coded× coded_ℕ coded_bool))))))))))))
-      (λ m. (m.harts, (m.memory, (m.places, (m.variables, (m.macros, (m.defining, (m.symbols, (m.limit, (m.current, (m.unread, (m.lines_read, (m.steps, m.opened)))))))))))))
-      (λ t. record { harts = t.0; memory = t.1.0; places = t.1.1.0; variables = t.1.1.1.0; macros = t.1.1.1.1.0; defining = t.1.1.1.1.1.0; symbols = t.1.1.1.1.1.1.0; limit = t.1.1.1.1.1.1.1.0; current = t.1.1.1.1.1.1.1.1.0; unread = t.1.1.1.1.1.1.1.1.1.0; lines_read = t.1.1.1.1.1.1.1.1.1.1.0; steps = t.1.1.1.1.1.1.1.1.1.1.1.0; opened = t.1.1.1.1.1.1.1.1.1.1.1.1 })
-      (λ _. refl)
+    (coded× (coded_list context_code) (coded× memory_code (coded× (coded_list (coded_option place_code)) (coded× (coded_list (coded× (coded_list coded_ℕ) (coded_list coded_ℕ))) (coded× (coded_list macro_code) (coded× coded_bool (coded× (coded_list symbol_code) (coded× coded_ℕ (coded× coded_ℕ (coded× (coded_list (coded_list coded_ℕ)) (coded× coded_ℕ (coded× coded_ℕ coded_bool))))))))))))
+    (λ m. (m.harts, (m.memory, (m.places, (m.variables, (m.macros, (m.defining, (m.symbols, (m.limit, (m.current, (m.unread, (m.lines_read, (m.steps, m.opened)))))))))))))
+    (λ t. record { harts = t.0; memory = t.1.0; places = t.1.1.0; variables = t.1.1.1.0; macros = t.1.1.1.1.0; defining = t.1.1.1.1.1.0; symbols = t.1.1.1.1.1.1.0; limit = t.1.1.1.1.1.1.1.0; current = t.1.1.1.1.1.1.1.1.0; unread = t.1.1.1.1.1.1.1.1.1.0; lines_read = t.1.1.1.1.1.1.1.1.1.1.0; steps = t.1.1.1.1.1.1.1.1.1.1.1.0; opened = t.1.1.1.1.1.1.1.1.1.1.1.1 })
+    (λ _. refl)
 
 abbrev number_of_ending : Ending → ℕ
 number_of_ending ScriptEnd = 0

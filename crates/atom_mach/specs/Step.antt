@@ -212,7 +212,7 @@ unfoldable pub session_lines : Hart → List (List ℕ) → Machine → Done
 session_lines m [] s = record { text = prompt_text s ++ newline; next = record { machine = s; mode = Over ScriptEnd } }
 session_lines m (line ∷ rest) s =
     after_line (line_said line (with_read s rest)).outcome (line_text line (with_read s rest))
-      (line_said line (with_read s rest)).machine m (session_lines m rest (line_said line (with_read s rest)).machine)
+    (line_said line (with_read s rest)).machine m (session_lines m rest (line_said line (with_read s rest)).machine)
 
 -- the machine once a session of m is open
 abbrev pub entered : Machine → ℕ → Machine

@@ -117,3 +117,43 @@ impl Atom {
         self.core.steps
     }
 }
+
+#[cfg(test)]
+mod tests {
+    use super::*;
+    use crate::check_script;
+    use img_text::read_image;
+    use std::test::Fail;
+
+    #[test]
+    fn steps_print_or_are_refused(rt: HostRuntime) -> Result<(), Fail> {
+        let alloc = rt.alloc();
+        let text = b"kimg 1\ntext 0x1000 16\nw 0x00500513 0x00100073 0x00000073\n";
+        let script = b"go\n".as_slice();
+        check_script(alloc, script)?;
+        let image = read_image(alloc, text)?;
+        let mut atom = Atom::start(alloc, &image, Symbols::read(alloc, &[])?, script, 1, 9)?;
+        let banner = "Entering kdb on processor 0 due to Start @ 0x0000000000001000\n[0]kdb> go\n";
+        for (step, want) in [
+            (AStep::Instr(Hart(0)), None),
+            (AStep::Session(Hart(0)), Some(banner)),
+            (AStep::Session(Hart(0)), None),
+            (AStep::Intr(Hart(0)), None),
+            (AStep::Enter(Hart(0), 1), None),
+            (AStep::Instr(Hart(1)), None),
+            (AStep::Instr(Hart(0)), Some("")),
+            (AStep::Instr(Hart(0)), None),
+            (AStep::Off(Ending::AllHalted), None),
+        ] {
+            match atom.step(step) {
+                Ok(printed) => assert_eq!(rt; Some(printed.as_bytes()), want.map(str::as_bytes)),
+                Err(fault) => {
+                    assert_eq!(rt; fault, StepFault::NotNow);
+                    assert!(rt; want.is_none());
+                }
+            }
+        }
+        assert_eq!(rt; (atom.steps(), atom.over()), (1, None));
+        Ok(())
+    }
+}

@@ -141,7 +141,10 @@ impl Core {
     pub fn may_take(&self) -> bool
         ensures { result ≡ may_take (state_of self.now) 0 }
     {
-        matches!(self.mode, Mode::Free) && self.opened && self.is_takeable() && self.steps < self.limit
+        matches!(self.mode, Mode::Free)
+            && self.opened
+            && self.is_takeable()
+            && self.steps < self.limit
     }
 
     /// Whether the hart may execute in the free machine.
@@ -354,11 +357,7 @@ fn push_prompt(out: &mut Vec<u8>) -> Result<(), OutOfMemory>
 }
 
 /// Appends what a line prints behind its echo, and says whether the session goes on.
-fn push_output(
-    out: &mut Vec<u8>,
-    line: &[u8],
-    context: &Context,
-) -> Result<Outcome, OutOfMemory>
+fn push_output(out: &mut Vec<u8>, line: &[u8], context: &Context) -> Result<Outcome, OutOfMemory>
     ensures output { OnOk result (out.new.items ≡ out.old.items ++ output_of (request_of line.now) context.now) }
     ensures outcome { IfOk result (λ outcome. outcome ≡ outcome_of (request_of line.now)) }
 {

@@ -33,7 +33,10 @@ pub enum Mode {
     /// No session is open.
     Free,
     /// A session with late harts is open.
-    Hold { master: Hart, late: u64 },
+    Hold {
+        master: Hart,
+        late: u64,
+    },
     /// The master of a session owes one instruction, a single-step pass; with `again` its session opens again after it.
     Pass {
         master: Hart,
@@ -41,9 +44,15 @@ pub enum Mode {
         again: bool,
     },
     /// The master has made its step, and its session opens again.
-    Back { master: Hart, late: u64 },
+    Back {
+        master: Hart,
+        late: u64,
+    },
     /// A session with late harts is closing.
-    Leave { master: Hart, late: u64 },
+    Leave {
+        master: Hart,
+        late: u64,
+    },
     /// The run has ended.
     Over(Ending),
 }

@@ -101,11 +101,7 @@ fn push_ending(out: &mut Vec<u8>, ending: Ending) -> Result<(), OutOfMemory>
 
 /// Appends the last line of a transcript: how the run ended, after how many steps.
 #[tactic(auto, unfolding(crate::specs::Texts::ending_line))]
-pub fn push_ending_line(
-    out: &mut Vec<u8>,
-    ending: Ending,
-    steps: u64,
-) -> Result<(), OutOfMemory>
+pub fn push_ending_line(out: &mut Vec<u8>, ending: Ending, steps: u64) -> Result<(), OutOfMemory>
     ensures { OnOk result (out.new.items ≡ out.old.items ++ ending_line ending steps) }
 {
     push_bytes(out, b"kdbsim: ")?;
@@ -127,11 +123,7 @@ fn push_blanks(out: &mut Vec<u8>, count: usize) -> Result<(), OutOfMemory>
 }
 
 #[tactic(auto, unfolding(crate::specs::Texts::register_item))]
-fn push_register_item(
-    out: &mut Vec<u8>,
-    context: &Context,
-    number: u8,
-) -> Result<(), OutOfMemory>
+fn push_register_item(out: &mut Vec<u8>, context: &Context, number: u8) -> Result<(), OutOfMemory>
     requires { number < 32 }
     ensures { OnOk result (out.new.items ≡ out.old.items ++ register_item context.now number) }
 {
@@ -144,11 +136,7 @@ fn push_register_item(
 }
 
 #[tactic(auto, unfolding(crate::specs::Texts::register_row))]
-fn push_register_row(
-    out: &mut Vec<u8>,
-    context: &Context,
-    first: u8,
-) -> Result<(), OutOfMemory>
+fn push_register_row(out: &mut Vec<u8>, context: &Context, first: u8) -> Result<(), OutOfMemory>
     requires { first + 3 < 32 }
     ensures { OnOk result (out.new.items ≡ out.old.items ++ register_row context.now first) }
 {

@@ -16,34 +16,34 @@ IsRightImage bytes image = (image_refusal bytes ≡ None) × (image_of bytes ≡
 
 -- the bytes are refused so, or memory ran out
 abbrev pub IsImageRefusal : List ℕ → Status → Type 0
+IsImageRefusal bytes (BadImage line why) = image_refusal bytes ≡ Some (BadImage line why)
+IsImageRefusal bytes (TooLarge what size) = image_refusal bytes ≡ Some (TooLarge what size)
+IsImageRefusal bytes (Unbuilt line) = image_refusal bytes ≡ Some (Unbuilt line)
 IsImageRefusal bytes OutOfMemory = Unit {0}
-IsImageRefusal bytes status = image_refusal bytes ≡ Some status
+IsImageRefusal bytes other = ⊥
 
 abbrev pub IsScriptRefusal : List ℕ → Status → Type 0
+IsScriptRefusal bytes (BadScript line) = script_refusal bytes ≡ Some (BadScript line)
+IsScriptRefusal bytes (TooLarge what size) = script_refusal bytes ≡ Some (TooLarge what size)
 IsScriptRefusal bytes OutOfMemory = Unit {0}
-IsScriptRefusal bytes status = script_refusal bytes ≡ Some status
+IsScriptRefusal bytes other = ⊥
 
 -- why there is no image: the shelf failed, memory ran out, or the file is refused
 abbrev pub FailsAtImage : Option FileMap → List ℕ → ℕ → ℕ → Status → Type 0
 FailsAtImage files name before after (ReadFault Image) = HasRisen before after
-FailsAtImage files name before after (ReadFault Script) = ⊥
+FailsAtImage files name before after (BadImage line why) = RefusesImage files name (BadImage line why)
+FailsAtImage files name before after (TooLarge what size) = RefusesImage files name (TooLarge what size)
+FailsAtImage files name before after (Unbuilt line) = RefusesImage files name (Unbuilt line)
 FailsAtImage files name before after OutOfMemory = Unit {0}
-FailsAtImage files name before after (Done ending) = ⊥
-FailsAtImage files name before after Usage = ⊥
-FailsAtImage files name before after WriteFault = ⊥
-FailsAtImage files name before after (BadScript line) = ⊥
-FailsAtImage files name before after status = RefusesImage files name status
+FailsAtImage files name before after other = ⊥
 
+-- why there is no script
 abbrev pub FailsAtScript : Option FileMap → List ℕ → ℕ → ℕ → Status → Type 0
 FailsAtScript files name before after (ReadFault Script) = HasRisen before after
-FailsAtScript files name before after (ReadFault Image) = ⊥
+FailsAtScript files name before after (BadScript line) = RefusesScript files name (BadScript line)
+FailsAtScript files name before after (TooLarge what size) = RefusesScript files name (TooLarge what size)
 FailsAtScript files name before after OutOfMemory = Unit {0}
-FailsAtScript files name before after (Done ending) = ⊥
-FailsAtScript files name before after Usage = ⊥
-FailsAtScript files name before after WriteFault = ⊥
-FailsAtScript files name before after (BadImage line why) = ⊥
-FailsAtScript files name before after (Unbuilt line) = ⊥
-FailsAtScript files name before after status = RefusesScript files name status
+FailsAtScript files name before after other = ⊥
 
 -- why there is no run: its image or its script fails, or memory ran out
 abbrev pub FailsAtRun : Option FileMap → Command → ℕ → ℕ → Status → Type 0

@@ -16,11 +16,7 @@ const IMAGE_LIMIT: usize = 67_108_864;
 const SCRIPT_LIMIT: usize = 1_048_576;
 
 /// Reads the image of a name, and finds what is wrong with it.
-pub fn image_input<F: Shelf>(
-    alloc: Global,
-    shelf: &mut F,
-    name: &str,
-) -> Result<Image, Status>
+pub fn image_input<F: Shelf>(alloc: Global, shelf: &mut F, name: &str) -> Result<Image, Status>
     ensures image { MatchResult result (HasImage (F.contents shelf.old) name.now) (FailsAtImage (F.contents shelf.old) name.now (F.faults shelf.old) (F.faults shelf.new)) }
     ensures kept { F.contents shelf.new ≡ F.contents shelf.old }
     ensures count { F.faults shelf.old ≤ F.faults shelf.new }
@@ -55,11 +51,7 @@ fn image_of(alloc: Global, bytes: &[u8]) -> Result<Image, Status>
 }
 
 /// Reads the script of a name, and finds what is wrong with it.
-pub fn script_input<F: Shelf>(
-    alloc: Global,
-    shelf: &mut F,
-    name: &str,
-) -> Result<Vec<u8>, Status>
+pub fn script_input<F: Shelf>(alloc: Global, shelf: &mut F, name: &str) -> Result<Vec<u8>, Status>
     ensures script { MatchResult result (λ bytes. HasScript (F.contents shelf.old) name.now bytes.items) (FailsAtScript (F.contents shelf.old) name.now (F.faults shelf.old) (F.faults shelf.new)) }
     ensures kept { F.contents shelf.new ≡ F.contents shelf.old }
     ensures count { F.faults shelf.old ≤ F.faults shelf.new }

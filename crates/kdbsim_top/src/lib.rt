@@ -12,6 +12,8 @@ mod input;
 mod report;
 mod run;
 mod status;
+#[cfg(test)]
+mod tests;
 mod top;
 mod words;
 

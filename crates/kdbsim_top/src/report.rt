@@ -62,7 +62,12 @@ fn push_words(out: &mut Vec<u8>, status: Status) -> Result<(), OutOfMemory>
         Status::Done(_) => Ok(()),
         Status::Usage => push(out, "usage"),
         Status::ReadFault(file) => push_two(out, "cannot read ", file_name(file)),
-        Status::BadImage { line, why } => push_numbered(out, "bad image, line ", line, why_name(why)),
+        Status::BadImage { line, why } => push_numbered(
+            out,
+            "bad image, line ",
+            line,
+            why_name(why),
+        ),
         Status::BadScript { line } => push_number(out, "bad script, line ", line),
         Status::TooLarge { what, size } => push_sized(out, what_name(what), size),
         Status::Unbuilt { line } => push_number(out, "unbuilt, line ", line),

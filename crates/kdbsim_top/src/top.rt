@@ -28,8 +28,13 @@ pub fn kdbsim<F: Shelf, O: Sink>(
 
     // Every other answer has its cause; that of Done is the headline.
     ensures cause { MatchOption (command_of (map string_bytes words.now)) (result ≡ Usage) (λ command. Explains (record {
-        files = F.contents shelf.old; shelf_before = F.faults shelf.old; shelf_after = F.faults shelf.new;
-        taken_before = O.taken out.old; taken_after = O.taken out.new; sink_before = O.faults out.old; sink_after = O.faults out.new
+      files = F.contents shelf.old;
+      shelf_before = F.faults shelf.old;
+      shelf_after = F.faults shelf.new;
+      taken_before = O.taken out.old;
+      taken_after = O.taken out.new;
+      sink_before = O.faults out.old;
+      sink_after = O.faults out.new;
     }) command result) }
 
     // The shelf keeps its bytes, and nothing is written without a run.
@@ -53,8 +58,13 @@ fn uni<F: Shelf, O: Sink>(
     out: &mut O,
 ) -> Result<Ending, Status>
     ensures cause { Explains (record {
-        files = F.contents shelf.old; shelf_before = F.faults shelf.old; shelf_after = F.faults shelf.new;
-        taken_before = O.taken out.old; taken_after = O.taken out.new; sink_before = O.faults out.old; sink_after = O.faults out.new
+      files = F.contents shelf.old;
+      shelf_before = F.faults shelf.old;
+      shelf_after = F.faults shelf.new;
+      taken_before = O.taken out.old;
+      taken_after = O.taken out.new;
+      sink_before = O.faults out.old;
+      sink_after = O.faults out.new;
     }) (record { image = operands.entry.image.now; script = operands.entry.script.now }) (status_of result) }
     ensures kept { F.contents shelf.new ≡ F.contents shelf.old }
     ensures silent { IsSilent (status_of result) → O.taken out.new ≡ O.taken out.old }
@@ -64,11 +74,7 @@ fn uni<F: Shelf, O: Sink>(
 }
 
 /// Reads the files and runs the machine; nothing is written.
-fn run_files<F: Shelf>(
-    alloc: Global,
-    operands: Operands<'_>,
-    shelf: &mut F,
-) -> Result<Told, Status>
+fn run_files<F: Shelf>(alloc: Global, operands: Operands<'_>, shelf: &mut F) -> Result<Told, Status>
     ensures cause { MatchResult result
         (λ told. IsUniRun (F.contents shelf.old) (record { image = operands.entry.image.now; script = operands.entry.script.now }) told.ending told.transcript.items)
         (FailsAtRun (F.contents shelf.old) (record { image = operands.entry.image.now; script = operands.entry.script.now }) (F.faults shelf.old) (F.faults shelf.new)) }

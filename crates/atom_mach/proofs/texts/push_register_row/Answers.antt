@@ -10,10 +10,10 @@ returns c =
     let n = c.args.first in
     let end = item (n + 2) ++ (codes "  " ++ (item (n + 3) ++ newline)) in
     join2 c.args.out.now.items c.push_register_item.new.out.items c.push_newline.new.out.items (item n) (codes "  " ++ (item (n + 1) ++ (codes "  " ++ end)))
-      c.in_ok-push_register_item.ensures
-      (join4 c.push_register_item.new.out.items c.push_bytes.new.out.items c.push_register_item-2.new.out.items c.push_bytes-2.new.out.items c.push_newline.new.out.items
-        (codes "  ") (item (n + 1)) (codes "  ") end
-        c.in_ok-push_bytes.ensures c.in_ok-push_register_item-2.ensures c.in_ok-push_bytes-2.ensures
-        (join4 c.push_bytes-2.new.out.items c.push_register_item-3.new.out.items c.push_bytes-3.new.out.items c.push_register_item-4.new.out.items c.push_newline.new.out.items
-          (item (n + 2)) (codes "  ") (item (n + 3)) newline
-          c.in_ok-push_register_item-3.ensures c.in_ok-push_bytes-3.ensures c.in_ok-push_register_item-4.ensures c.in_ok-push_newline.ensures))
+    c.in_ok-push_register_item.ensures
+    (join4 c.push_register_item.new.out.items c.push_bytes.new.out.items c.push_register_item-2.new.out.items c.push_bytes-2.new.out.items c.push_newline.new.out.items
+    (codes "  ") (item (n + 1)) (codes "  ") end
+    c.in_ok-push_bytes.ensures c.in_ok-push_register_item-2.ensures c.in_ok-push_bytes-2.ensures
+    (join4 c.push_bytes-2.new.out.items c.push_register_item-3.new.out.items c.push_bytes-3.new.out.items c.push_register_item-4.new.out.items c.push_newline.new.out.items
+    (item (n + 2)) (codes "  ") (item (n + 3)) newline
+    c.in_ok-push_register_item-3.ensures c.in_ok-push_bytes-3.ensures c.in_ok-push_register_item-4.ensures c.in_ok-push_newline.ensures))

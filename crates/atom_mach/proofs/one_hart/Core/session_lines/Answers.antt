@@ -24,11 +24,11 @@ loop-self-preserved c =
     let stay : (line_said line (with_read s rest)).outcome ≡ Stay = sym said.1 ∙ c.in-Stay.is in
     record {
       told =
-        ap (λ (x : Machine). prefixed c.session_line.new.out.items (session_lines (record { 0 = 0 }) x.unread x)) said.2
-        ∙ ap (λ o. prefixed o (session_lines (record { 0 = 0 }) rest (with_read s rest))) said.0
-        ∙ sym (session_lines-stay (record { 0 = 0 }) line rest s c.loop-self.out.items stay)
-        ∙ ap (λ u. prefixed c.loop-self.out.items (session_lines (record { 0 = 0 }) u s)) (sym unread)
-        ∙ c.loop-self.invariant.told;
+          ap (λ (x : Machine). prefixed c.session_line.new.out.items (session_lines (record { 0 = 0 }) x.unread x)) said.2
+          ∙ ap (λ o. prefixed o (session_lines (record { 0 = 0 }) rest (with_read s rest))) said.0
+          ∙ sym (session_lines-stay (record { 0 = 0 }) line rest s c.loop-self.out.items stay)
+          ∙ ap (λ u. prefixed c.loop-self.out.items (session_lines (record { 0 = 0 }) u s)) (sym unread)
+          ∙ c.loop-self.invariant.told;
     }
 
 pub returns-in-Go : goal.returns-in-Go
@@ -55,4 +55,4 @@ returns c =
     ∙ ap (λ u. prefixed c.loop-self.out.items (session_lines (record { 0 = 0 }) u s)) unread
     ∙ session_lines-end (record { 0 = 0 }) s c.loop-self.out.items
     ∙ same_done (c.loop-self.out.items ++ (first_prompt ++ newline)) c.push_newline.new.out.items s s (Over ScriptEnd) (Over ScriptEnd)
-        (join2 c.loop-self.out.items c.push_prompt.new.out.items c.push_newline.new.out.items first_prompt newline c.in_ok-push_prompt.ensures c.in_ok-push_newline.ensures) refl refl
+    (join2 c.loop-self.out.items c.push_prompt.new.out.items c.push_newline.new.out.items first_prompt newline c.in_ok-push_prompt.ensures c.in_ok-push_newline.ensures) refl refl

@@ -1,0 +1,15 @@
+use Rattle.std.proofs.Common.{[], List}
+use Rattle.atom_mach.specs.declared.step.AStep.{AStep}
+use Rattle.atom_mach.specs.State.{start_state}
+use Rattle.atom_mach.specs.Run.{Runs, first_allowed}
+use Rattle.atom_mach.specs.Work.{work_left}
+use Rattle.kdbsim_top.specs.Causes.{uni_limit}
+use Rattle.kdbsim_top.proofs.run.run_uni.Given as goal
+
+-- some steps were made, and printed the transcript so far
+abbrev pub invariant-loop-ending : goal.invariant-loop-ending
+invariant-loop-ending l =
+    (steps : List AStep) × Runs first_allowed (start_state l.image [] l.script 1 uni_limit) steps l.transcript.items l.atom
+
+abbrev pub decreases-loop-ending : goal.decreases-loop-ending
+decreases-loop-ending l = work_left l.atom
