@@ -1,8 +1,8 @@
 //! The segments of an image while it is read.
 
-ghost use Rattle.std.specs.Prelude.{◌≡◌, ℕ, ◌+◌, ◌*◌, ◌<◌, ◌≤◌, ◌^◌, ◌++◌, ◌↔◌, length, map, reverse, OnOk, OnErr, IsTrue, IfOk};
+ghost use Rattle.std.specs.Prelude.{◌≡◌, ◌+◌, ◌*◌, ◌<◌, ◌≤◌, ◌^◌, ◌++◌, length, map, OnOk};
 ghost use Rattle.std.specs.List.{flat_map};
-ghost use Rattle.mach_base.specs.Machine.{memory_size, is_text_segment, HasBounds};
+ghost use Rattle.mach_base.specs.Machine.{memory_size, is_text_segment};
 ghost use Rattle.img_text.specs.Directives.{size_of};
 ghost use Rattle.img_text.specs.Image.{segments_of};
 ghost use Rattle.img_text.specs.Reading.{AreSound, Leaves, begin, put, end_of, has_bounds, has_text, value_bytes};
@@ -10,8 +10,8 @@ ghost use Rattle.img_text.specs.Blocks.{parts_of, latest_first};
 
 use crate::directive::{Width, size_of};
 use crate::fault::{LineFault, Why};
-use mach_base::{Kind, OutOfMemory, Segment};
-use std::alloc::{AllocError, Global};
+use mach_base::{Kind, Segment};
+use std::alloc::AllocError;
 
 /// A segment with the bytes that were put into it so far.
 #[derive(Drop)]

@@ -27,7 +27,7 @@ impl Model for Image {
 }
 
 impl Image {
-    ghost use Rattle.std.specs.Prelude.{◌≡◌, ℕ, ◌+◌, ◌<◌, ◌≤◌, [], ◌∷◌, ◌++◌, length, map, replicate, OnOk, OnErr, Some, None, slice_set, slice_index_or, slice_get, option_map};
+    ghost use Rattle.std.specs.Prelude.{◌≡◌, ◌+◌, ◌<◌, ◌≤◌, [], ◌∷◌, ◌++◌, length, map, replicate, OnOk, OnErr, Some, None, slice_set, slice_index_or, slice_get, option_map};
     ghost use Rattle.mach_base.specs.Machine.{AreSegments};
     ghost use Rattle.img_text.specs.Image.{ImageRecord, IsImage, segments_of, filled};
 

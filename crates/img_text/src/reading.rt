@@ -1,11 +1,11 @@
 //! Reading of an image file.
 
-ghost use Rattle.std.specs.Prelude.{◌≡◌, ◌≤◌, ◌^◌, ◌<◌, [], length, map, reverse, replicate, None, IfOk, OnOk};
+ghost use Rattle.std.specs.Prelude.{◌≡◌, ◌≤◌, ◌<◌, [], length, map, replicate, None, IfOk};
 ghost use Rattle.std.specs.List.{AllByRecursion};
 ghost use Rattle.mach_base.specs.Machine.{AreSegments};
 ghost use Rattle.img_text.specs.Lines.{lines_of, words_of};
 ghost use Rattle.img_text.specs.Image.{segments_of, filled};
-ghost use Rattle.img_text.specs.Directives.{least_of, most_of};
+ghost use Rattle.img_text.specs.Directives.{least_of};
 ghost use Rattle.img_text.specs.Reading.{AreSound, IsShort, Leaves, Gives, start, applied, numbered, read_line, read_lines, whole_image, is_header, image_of};
 ghost use Rattle.img_text.specs.Blocks.{parts_of, latest_first};
 ghost use Rattle.img_text.specs.Reader.{draft_of};
