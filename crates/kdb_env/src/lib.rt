@@ -14,5 +14,6 @@ mod table;
 mod tests;
 mod variables;
 
+pub use checks::is_name;
 pub use env_fault::EnvFault;
 pub use variables::{Env, Pair};
