@@ -1,5 +1,5 @@
 -- Each step of a machine with one hart leaves less to do.
-use Rattle.std.proofs.Common.{◌≡◌, ℕ, zero, suc, ◌+◌, ◌-◌, ◌*◌, ◌<◌, ◌≤◌, ◌==◌, ◌&&◌, ◌||◌, Bool, true, false, not, cond, IsTrue, List, [], ◌∷◌, length, Option, Some, None, nat_lt, refl, sym, ap, ◌∙◌, arith, rules}
+use Rattle.std.proofs.Common.{◌≡◌, ℕ, ◌+◌, ◌-◌, ◌*◌, ◌<◌, ◌≤◌, ◌==◌, ◌&&◌, ◌||◌, Bool, true, false, cond, IsTrue, List, [], ◌∷◌, length, Option, Some, None, nat_lt, refl, arith}
 use Rattle.std.proofs.lemmas.Bool.{false≢true, ltb-true}
 use Rattle.mach_base.specs.Machine.{Machine}
 use Rattle.mach_base.specs.declared.event.Hart.{Hart}
@@ -12,7 +12,7 @@ use Rattle.atom_mach.specs.declared.step.Outcome.{Outcome}
 use Rattle.atom_mach.specs.declared.step.Outcome.TheVariants.{Stay, Go, Step as StepOut}
 use Rattle.atom_mach.specs.declared.step.AStep.TheVariants.{Instr, Intr, Session, Off}
 use Rattle.atom_mach.specs.State.{State}
-use Rattle.atom_mach.specs.Step.{Done, does, is_hart, may_run, may_pass, may_take, runs, opening, opened_for, session, session_lines, after_line, line_said, line_text, with_read, entered, mode_of_go, mode_after, owes, executed, interrupted, is_free, is_true_ending, ended, stops_again, trap}
+use Rattle.atom_mach.specs.Step.{Done, does, is_hart, may_run, may_pass, may_take, runs, opening, opened_for, session, session_lines, after_line, line_said, line_text, with_read, entered, mode_of_go, mode_after, owes, executed, is_free, is_true_ending, ended, stops_again, trap}
 use Rattle.atom_mach.specs.Modes.{is_alone, ending_of}
 use Rattle.atom_mach.specs.Work.{weight, work_left}
 use Rattle.atom_mach.proofs.Steps.{and_true, may_run-alone}

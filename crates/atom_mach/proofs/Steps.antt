@@ -1,5 +1,5 @@
 -- Which steps a machine with one hart may make.
-use Rattle.std.proofs.Common.{◌≡◌, ℕ, zero, suc, ◌+◌, ◌<◌, ◌==◌, ◌&&◌, ◌||◌, Bool, true, false, not, cond, IsTrue, List, [], ◌∷◌, length, get_or, Option, Some, None, Result, Ok, Err, nat_lt, is_none, is_some, option_map, refl, sym, ap, ◌∙◌, subst, arith, rules}
+use Rattle.std.proofs.Common.{◌≡◌, ℕ, ◌<◌, ◌==◌, ◌&&◌, ◌||◌, Bool, true, false, not, cond, IsTrue, List, [], ◌∷◌, length, get_or, Option, Some, None, Result, Ok, Err, nat_lt, is_none, option_map, refl, sym, ◌∙◌, arith, rules}
 use Rattle.std.proofs.lemmas.Bool.{false≢true}
 use Rattle.mach_base.specs.Machine.{Context, Machine}
 use Rattle.mach_base.specs.declared.event.Hart.{Hart}
@@ -13,7 +13,7 @@ use Rattle.atom_mach.specs.declared.step.Mode.TheVariants.{Free, Hold, Pass, Bac
 use Rattle.atom_mach.specs.declared.step.AStep.TheVariants.{Instr, Off}
 use Rattle.atom_mach.specs.Instruction.{ebreak_word, word_fault}
 use Rattle.atom_mach.specs.State.{State, context_at}
-use Rattle.atom_mach.specs.Step.{Done, does, ended, is_free, is_true_ending, holds_at_end, all_halted, is_hart, may_run, may_pass, executed, mode_after, trap, trap_in, late_trap, fault_of, fetched_at, fault_of_fetched, trap_of_fetched, breakpoint_or, enabled_place, runs, is_takeable}
+use Rattle.atom_mach.specs.Step.{Done, does, ended, is_free, holds_at_end, all_halted, is_hart, may_run, may_pass, executed, mode_after, trap, trap_in, fault_of, fetched_at, fault_of_fetched, trap_of_fetched, breakpoint_or, enabled_place, runs, is_takeable}
 use Rattle.atom_mach.specs.Texts.{has_bit}
 use Rattle.atom_mach.specs.Modes.{is_alone}
 

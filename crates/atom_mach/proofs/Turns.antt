@@ -1,8 +1,8 @@
 -- A machine with one hart that isn't over has an allowed step, and each step leaves less to do.
-use Rattle.std.proofs.Common.{◌≡◌, ℕ, zero, suc, ◌+◌, ◌-◌, ◌*◌, ◌<◌, ◌≤◌, ◌==◌, ◌&&◌, ◌||◌, Bool, true, false, not, cond, IsTrue, List, [], ◌∷◌, length, get_or, Option, Some, None, Result, Ok, Err, nat_lt, nat_le, is_none, is_some, option_map, refl, sym, ap, ◌∙◌, subst, arith, rules}
+use Rattle.std.proofs.Common.{◌≡◌, ℕ, ◌==◌, ◌&&◌, ◌||◌, Bool, true, false, not, cond, IsTrue, length, Option, Some, None, nat_lt, nat_le, option_map, refl, sym, ◌∙◌, arith}
 use Rattle.std.proofs.lemmas.Bool.{false≢true}
 use Rattle.std.proofs.lemmas.Bool.Decides.{nat_tests}
-use Rattle.mach_base.specs.Machine.{Context, Machine}
+use Rattle.mach_base.specs.Machine.{Machine}
 use Rattle.mach_base.specs.declared.event.Hart.{Hart}
 use Rattle.mach_base.specs.declared.event.Fault.{Fault}
 use Rattle.mach_base.specs.declared.event.Reason.{Reason}
@@ -11,13 +11,12 @@ use Rattle.mach_base.specs.declared.event.Ending.TheVariants.{AllHalted, StepLim
 use Rattle.hart_ctx.specs.Context.{start_context}
 use Rattle.atom_mach.specs.declared.step.Mode.{Mode}
 use Rattle.atom_mach.specs.declared.step.Mode.TheVariants.{Free, Hold, Pass, Back, Leave, Over}
-use Rattle.atom_mach.specs.declared.step.AStep.{AStep}
 use Rattle.atom_mach.specs.declared.step.AStep.TheVariants.{Instr, Intr, Session, Off}
 use Rattle.atom_mach.specs.State.{State, context_at}
-use Rattle.atom_mach.specs.Step.{Done, does, is_hart, may_run, may_pass, may_take, opening, opened_for, session, trap, fault_of, is_takeable, all_halted, breakpoint_or, enabled_place, trap_of_fetched, fetched_at, is_free}
+use Rattle.atom_mach.specs.Step.{Done, does, is_hart, may_run, may_pass, may_take, opening, opened_for, trap, fault_of, is_takeable, all_halted, is_free}
 use Rattle.atom_mach.specs.Run.{first_allowed}
-use Rattle.atom_mach.specs.Modes.{is_alone, ending_of, IsSingle}
-use Rattle.atom_mach.proofs.Steps.{cond_true, cond_false, and_true, and_false, all_halted-one, does-Instr}
+use Rattle.atom_mach.specs.Modes.{is_alone, ending_of}
+use Rattle.atom_mach.proofs.Steps.{cond_true, and_true, all_halted-one}
 
 abbrev h0 : Hart
 h0 = record { 0 = 0 }

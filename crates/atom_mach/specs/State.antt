@@ -1,7 +1,7 @@
 -- The state of the atomic machine: the machine record and the mode.
-use Rattle.std.specs.Prelude.{◌≡◌, ℕ, ◌+◌, ◌==◌, ◌&&◌, Bool, true, false, List, [], ◌∷◌, length, codes, map, replicate, option_and_then, Option, Some, None, Result, Ok, Err, slice_index_or, slice_set, unwrap_or, if◌then◌else◌}
+use Rattle.std.specs.Prelude.{ℕ, false, List, [], ◌∷◌, codes, map, replicate, None, slice_index_or, slice_set, unwrap_or}
 use Rattle.std.specs.List.{range_with_len}
-use Rattle.mach_base.specs.Machine.{Context, Place, Symbol, Machine, memory_of}
+use Rattle.mach_base.specs.Machine.{Context, Symbol, Machine, memory_of}
 use Rattle.mach_base.specs.declared.memory_range.Segment.{Segment}
 use Rattle.mach_base.specs.declared.memory_range.Kind.{Kind}
 use Rattle.mach_base.specs.declared.memory_range.Kind.TheVariants.{Text, Data, Rodata}

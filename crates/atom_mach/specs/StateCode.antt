@@ -1,5 +1,5 @@
 -- The code of a state, by which proofs tell its values apart: each record as the nested pairs of its fields.
-use Rattle.std.specs.Prelude.{◌≡◌, ℕ, zero, suc, ◌+◌, Bool, false, List, Option, refl}
+use Rattle.std.specs.Prelude.{◌≡◌, ℕ, zero, suc, Bool, false, List, Option, refl}
 use Rattle.std.specs.Coded.{Coded, code_by, coded×, coded_ℕ, coded_bool, coded_list, coded_option}
 use Rattle.mach_base.specs.Machine.{Context, Memory, Place, Macro, Symbol, Machine}
 use Rattle.mach_base.specs.Codes.{memory_code}

@@ -1,16 +1,15 @@
 -- What the machine and the debugger print.
-use Rattle.std.specs.Prelude.{ℕ, suc, zero, ◌+◌, ◌-◌, ◌*◌, ◌/◌, ◌%◌, ◌^◌, ◌==◌, ◌&&◌, Bool, true, false, List, [], ◌∷◌, ◌++◌, length, codes, filter, replicate, Option, Some, None, nat_lt, slice_index, if◌then◌else◌}
+use Rattle.std.specs.Prelude.{ℕ, suc, zero, ◌+◌, ◌-◌, ◌*◌, ◌/◌, ◌%◌, ◌^◌, ◌==◌, ◌&&◌, Bool, List, [], ◌∷◌, ◌++◌, length, codes, filter, replicate, slice_index, if◌then◌else◌}
 use Rattle.std.specs.List.{range_with_len}
 use Rattle.mach_base.specs.Number.{hex_text, dec_text}
 use Rattle.mach_base.specs.Machine.{Context}
-use Rattle.mach_base.specs.declared.event.Fault.{Fault}
 use Rattle.mach_base.specs.declared.event.Cause.{Cause}
 use Rattle.mach_base.specs.declared.event.Cause.TheVariants.{Unmapped, NoRight, Misaligned, Illegal, BadService}
 use Rattle.mach_base.specs.declared.event.Reason.{Reason}
 use Rattle.mach_base.specs.declared.event.Reason.TheVariants.{Start, Breakpoint, Compiled, Step, Fault as FaultReason}
 use Rattle.mach_base.specs.declared.event.Ending.{Ending}
 use Rattle.mach_base.specs.declared.event.Ending.TheVariants.{ScriptEnd, AllHalted, StepLimit, PlanEnd}
-use Rattle.hart_ctx.specs.declared.register_name.RegName.TheVariants.{X, Pc}
+use Rattle.hart_ctx.specs.declared.register_name.RegName.TheVariants.{X}
 use Rattle.hart_ctx.specs.RegisterName.{name_of}
 
 -- the end of a line

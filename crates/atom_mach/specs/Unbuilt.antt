@@ -1,12 +1,11 @@
 -- Which images have more than what is built.
-use Rattle.std.specs.Prelude.{ℕ, ◌+◌, ◌^◌, ◌&&◌, Bool, true, false, List, [], ◌∷◌, Option, Some, None, is_some, nat_lt, Result, Ok, Err, if◌then◌else◌}
+use Rattle.std.specs.Prelude.{ℕ, ◌+◌, ◌^◌, ◌&&◌, Bool, true, false, List, [], ◌∷◌, Option, Some, None, is_some, nat_lt, Result, Ok, if◌then◌else◌}
 use Rattle.std.specs.List.{list_all}
-use Rattle.mach_base.specs.declared.memory_range.Kind.{Kind}
-use Rattle.mach_base.specs.declared.memory_range.Kind.TheVariants.{Text, Data, Rodata}
+use Rattle.mach_base.specs.declared.memory_range.Kind.TheVariants.{Text}
 use Rattle.img_text.specs.declared.fault.Why.{Why}
-use Rattle.img_text.specs.declared.directive.Width.TheVariants.{One, Four, Eight}
+use Rattle.img_text.specs.declared.directive.Width.TheVariants.{Four}
 use Rattle.img_text.specs.declared.directive.Directive.{Directive}
-use Rattle.img_text.specs.declared.directive.Directive.TheVariants.{Begin, Put, Pc, Sp}
+use Rattle.img_text.specs.declared.directive.Directive.TheVariants.{Begin, Put}
 use Rattle.img_text.specs.Lines.{lines_of, words_of}
 use Rattle.img_text.specs.Directives.{line_of}
 use Rattle.atom_mach.specs.Instruction.{instruction_of}

@@ -1,4 +1,4 @@
-ghost use Rattle.std.specs.Prelude.{◌≡◌, ◌+◌, ◌*◌, ◌<◌, ◌≤◌, ◌^◌, List, [], ◌∷◌, ◌++◌, OnOk, replicate};
+ghost use Rattle.std.specs.Prelude.{◌≡◌, ◌+◌, ◌*◌, ◌<◌, ◌≤◌, ◌^◌, List, [], ◌∷◌, ◌++◌, OnOk, OnErr, replicate};
 ghost use Rattle.mach_base.specs.Number.{hex_text, dec_text};
 ghost use Rattle.atom_mach.specs.Texts.{newline, address_text, cause_text, reason_text, banner_text, ending_text, ending_line, register_item, register_row, register_rows, registers_text, unknown_command_text};
 
@@ -99,9 +99,19 @@ fn push_ending(out: &mut Vec<u8>, ending: Ending) -> Result<(), OutOfMemory>
     Ok(())
 }
 
-/// Appends the last line of a transcript: how the run ended, after how many steps.
-#[tactic(auto, unfolding(crate::specs::Texts::ending_line))]
+/// Appends the last line of a transcript: how the run ended, after how many steps. A refusal leaves `out` as it was.
 pub fn push_ending_line(out: &mut Vec<u8>, ending: Ending, steps: u64) -> Result<(), OutOfMemory>
+    ensures ok { OnOk result (out.new.items ≡ out.old.items ++ ending_line ending steps) }
+    ensures err { OnErr result (out.new.items ≡ out.old.items) }
+{
+    let mut line = Vec::new(*out.allocator());
+    push_ending_parts(&mut line, ending, steps)?;
+    out.extend_from_slice(line.as_slice())?;
+    Ok(())
+}
+
+#[tactic(auto, unfolding(crate::specs::Texts::ending_line))]
+fn push_ending_parts(out: &mut Vec<u8>, ending: Ending, steps: u64) -> Result<(), OutOfMemory>
     ensures { OnOk result (out.new.items ≡ out.old.items ++ ending_line ending steps) }
 {
     push_bytes(out, b"kdbsim: ")?;

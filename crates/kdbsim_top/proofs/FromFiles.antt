@@ -1,5 +1,5 @@
 -- What the bytes of a file give is what the shelf's file gives.
-use Rattle.std.proofs.Common.{◌≡◌, ℕ, List, Bool, true, false, cond, Option, Some, None, Result, Ok, Err, MatchResult, nat_lt, length, refl, sym, ◌∙◌}
+use Rattle.std.proofs.Common.{◌≡◌, ℕ, List, Bool, true, false, cond, Option, Some, None, Result, Ok, Err, MatchResult, nat_lt, length, refl}
 use Rattle.mach_base.specs.declared.event.What.TheVariants.{ScriptBytes}
 use Rattle.img_text.specs.Image.{ImageRecord}
 use Rattle.io_edge.specs.Edge.{FileMap, IsTold}
@@ -9,7 +9,7 @@ use Rattle.atom_mach.specs.Script.{checked_script}
 use Rattle.kdbsim_top.specs.declared.status.File.TheVariants.{Image, Script}
 use Rattle.kdbsim_top.specs.declared.status.Status.{Status}
 use Rattle.kdbsim_top.specs.declared.status.Status.TheVariants.{Done, Usage, ReadFault, BadImage, BadScript, TooLarge, Unbuilt, WriteFault, OutOfMemory}
-use Rattle.kdbsim_top.specs.Inputs.{HasImage, HasScript, image_refusal, script_refusal, script_limit, refusal_of_check}
+use Rattle.kdbsim_top.specs.Inputs.{HasImage, HasScript, script_refusal, script_limit, refusal_of_check}
 use Rattle.kdbsim_top.specs.Stages.{IsRightImage, IsImageRefusal, IsScriptRefusal, FailsAtImage, FailsAtScript}
 
 fails_at_image : (files : Option FileMap) (name bytes : List ℕ) (before after : ℕ) (status : Status) → IsTold files name bytes → IsImageRefusal bytes status → FailsAtImage files name before after status

@@ -1,5 +1,5 @@
 -- A run goes on by one step.
-use Rattle.std.proofs.Common.{◌≡◌, ℕ, List, [], ◌∷◌, ◌++◌, Option, Some, None, refl, sym, ap, ◌∙◌, append_assoc, rules}
+use Rattle.std.proofs.Common.{◌≡◌, ℕ, List, [], ◌∷◌, ◌++◌, Option, Some, refl, sym, ap, ◌∙◌, append_assoc}
 use Rattle.atom_mach.specs.declared.step.AStep.{AStep}
 use Rattle.mach_base.specs.declared.event.Ending.{Ending}
 use Rattle.atom_mach.specs.declared.step.Mode.{Mode}

@@ -1,5 +1,5 @@
 -- The cause of each answer of the top call.
-use Rattle.std.specs.Prelude.{◌≡◌, ℕ, ◌≤◌, ◌⊎◌, List, [], ◌++◌, Option, Some, None}
+use Rattle.std.specs.Prelude.{◌≡◌, ℕ, ◌≤◌, ◌⊎◌, List, [], ◌++◌, Option}
 use Rattle.std.specs.Option.{option_map}
 use Rattle.mach_base.specs.declared.event.Ending.{Ending}
 use Rattle.img_text.specs.Image.{ImageRecord}

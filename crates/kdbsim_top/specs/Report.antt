@@ -1,5 +1,5 @@
 -- The line and the number of a status.
-use Rattle.std.specs.Prelude.{ℕ, List, [], ◌∷◌, ◌++◌, codes}
+use Rattle.std.specs.Prelude.{ℕ, List, [], ◌++◌, codes}
 use Rattle.mach_base.specs.Number.{dec_text}
 use Rattle.mach_base.specs.declared.event.What.{What}
 use Rattle.mach_base.specs.declared.event.What.TheVariants.{ImageBytes, Segments, Memory, MapBytes, Symbols, ScriptBytes, Lines, PlanBytes, Ticks, JournalBytes, Entries}

@@ -8,7 +8,7 @@ use Rattle.kdbsim_top.specs.Words.{Command}
 use Rattle.kdbsim_top.specs.Inputs.{image_refusal, script_refusal, HasImage, RefusesImage, RefusesScript}
 use Rattle.kdbsim_top.specs.declared.status.File.TheVariants.{Image, Script}
 use Rattle.kdbsim_top.specs.declared.status.Status.{Status}
-use Rattle.kdbsim_top.specs.declared.status.Status.TheVariants.{Done, Usage, ReadFault, BadImage, BadScript, TooLarge, Unbuilt, WriteFault, OutOfMemory}
+use Rattle.kdbsim_top.specs.declared.status.Status.TheVariants.{Done, ReadFault, BadImage, BadScript, TooLarge, Unbuilt, WriteFault, OutOfMemory}
 
 -- the bytes are a right image, and this is it
 abbrev pub IsRightImage : List ℕ → ImageRecord → Type 0

@@ -25,7 +25,6 @@ pub fn status_code(status: &Status) -> u8
 }
 
 /// The line that the program prints for a status other than Done, without its end; empty for Done.
-
 pub fn status_line(alloc: Global, status: &Status) -> Result<Text, OutOfMemory>
     ensures { IfOk result (λ line. line ≡ line_of status.now) }
 {

@@ -1,8 +1,7 @@
-use Rattle.std.proofs.Common.{◌≡◌, ◌≤◌, ◌++◌, ◌∷◌, [], map, take, length, ap, sym, ◌∙◌, add-one, arith}
+use Rattle.std.proofs.Common.{◌≡◌, ◌≤◌, ◌++◌, ◌∷◌, [], map, length, ap, sym, ◌∙◌, add-one, arith}
 use Rattle.std.proofs.lemmas.List.{take_all}
 use Rattle.std.proofs.lemmas.List.{length-map}
 use Rattle.mach_base.specs.Machine.{Part}
-use Rattle.img_text.specs.Image.{segments_of}
 use Rattle.atom_mach.proofs.PartsJoined.{bytes_more, AreContents-parts, parts_of-parts}
 use Rattle.atom_mach.proofs.boot.boot_memory.Goals as goal
 

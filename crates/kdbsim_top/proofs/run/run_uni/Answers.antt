@@ -12,7 +12,7 @@ returns-in-Some c = record {
   printed = c.loop-ending.transcript.items;
   run = c.loop-ending.invariant.1;
   over = ending_of-Some c.loop-ending.atom.mode c.in-Some.ending (sym c.over.ensures ∙ c.in-Some.is);
-  whole = rw c.steps.ensures at c.in_ok-push_ending_line.ensures;
+  whole = rw c.steps.ensures at c.in_ok-push_ending_line.ensures.ok;
 }
 
 pub loop-ending-preserved : goal.loop-ending-preserved

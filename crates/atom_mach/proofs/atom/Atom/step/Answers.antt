@@ -1,4 +1,4 @@
-use Rattle.std.proofs.Common.{◌≡◌, None, Some, ◌∙◌, sym, ap}
+use Rattle.std.proofs.Common.{◌∙◌, ap}
 use Rattle.atom_mach.specs.Step.{does}
 use Rattle.atom_mach.proofs.atom.Atom.step.Goals as goal
 

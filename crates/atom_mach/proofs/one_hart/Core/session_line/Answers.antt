@@ -1,8 +1,8 @@
-use Rattle.std.proofs.Common.{◌≡◌, ◌+◌, List, ℕ, ap, ◌∙◌, get_or, arith}
+use Rattle.std.proofs.Common.{◌≡◌, ◌+◌, ap, ◌∙◌, arith}
 use Rattle.hart_ctx.specs.Context.{start_context}
 use Rattle.atom_mach.specs.Core.{machine_of}
 use Rattle.atom_mach.specs.State.{context_at}
-use Rattle.atom_mach.specs.Step.{line_said, line_text}
+use Rattle.atom_mach.specs.Step.{line_said}
 use Rattle.atom_mach.proofs.Steps.{context_one}
 use Rattle.atom_mach.proofs.Sessions.{at_place, spoken}
 use Rattle.atom_mach.proofs.one_hart.Core.session_line.Goals as goal

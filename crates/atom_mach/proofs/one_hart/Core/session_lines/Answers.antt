@@ -2,7 +2,7 @@ use Rattle.std.proofs.Common.{◌≡◌, ◌++◌, ◌∷◌, [], suc, drop, get
 use Rattle.std.proofs.Math.Seq.{drop-cons}
 use Rattle.std.proofs.lemmas.List.{drop_all}
 use Rattle.mach_base.specs.Machine.{Machine}
-use Rattle.atom_mach.specs.Core.{machine_of, state_of}
+use Rattle.atom_mach.specs.Core.{machine_of}
 use Rattle.atom_mach.specs.Texts.{newline}
 use Rattle.atom_mach.specs.Step.{first_prompt, prefixed, session_lines, with_read, line_said, line_text, mode_of_go}
 use Rattle.atom_mach.specs.declared.step.Outcome.TheVariants.{Stay, Go}

@@ -1,5 +1,4 @@
 use Rattle.std.proofs.Common.{◌≡◌, ◌-◌, vec_len}
-use Rattle.mach_base.specs.declared.event.Hart.{Hart}
 use Rattle.atom_mach.specs.Step.{session_lines, prefixed}
 use Rattle.atom_mach.specs.Core.{machine_of}
 use Rattle.atom_mach.proofs.one_hart.Core.session_lines.Given as goal

@@ -1,9 +1,8 @@
-use Rattle.std.proofs.Common.{◌≡◌, ◌==◌, true, false, None, Some, ℕ, length, nat_lt, sym, ap, ◌∙◌, refl, arith, rules}
+use Rattle.std.proofs.Common.{◌≡◌, Some, ℕ, length, sym, ap, ◌∙◌, refl, arith}
 use Rattle.std.proofs.lemmas.Bool.Decides.{nat_tests}
 use Rattle.mach_base.specs.declared.event.Hart.{Hart}
-use Rattle.atom_mach.specs.declared.step.AStep.TheVariants.{Instr, Intr, Session}
 use Rattle.atom_mach.specs.Core.{machine_of, state_of}
-use Rattle.atom_mach.specs.Step.{does, opening, session}
+use Rattle.atom_mach.specs.Step.{does, session}
 use Rattle.atom_mach.proofs.Allowed.{does-Instr-other, does-Intr-other, does-Session-other, does-Session-none, does-Session, does-Enter-one, does-Line-alone, does-End-alone}
 use Rattle.atom_mach.proofs.one_hart.Core.try_step.Goals as goal
 
