@@ -1,7 +1,7 @@
 -- Scripts: which lines are right.
 use Rattle.std.specs.Prelude.{◌≡◌, ℕ, ◌+◌, ◌==◌, ◌&&◌, ◌||◌, Bool, not, List, [], ◌∷◌, length, Option, Some, None, Result, Ok, Err, nat_le, if◌then◌else◌}
 use Rattle.std.specs.List.{list_all}
-use Rattle.img_text.specs.Lines.{lines_of}
+use Rattle.mach_base.specs.Lines.{lines_of}
 use Rattle.mach_base.specs.declared.event.What.TheVariants.{Lines}
 use Rattle.atom_mach.specs.declared.script.ScriptFault.{ScriptFault}
 use Rattle.atom_mach.specs.declared.script.ScriptFault.TheVariants.{Bad, TooLarge, OutOfMemory}

@@ -6,7 +6,7 @@ use Rattle.img_text.specs.declared.fault.Why.{Why}
 use Rattle.img_text.specs.declared.directive.Width.TheVariants.{Four}
 use Rattle.img_text.specs.declared.directive.Directive.{Directive}
 use Rattle.img_text.specs.declared.directive.Directive.TheVariants.{Begin, Put}
-use Rattle.img_text.specs.Lines.{lines_of, words_of}
+use Rattle.mach_base.specs.Lines.{lines_of, words_of}
 use Rattle.img_text.specs.Directives.{line_of}
 use Rattle.atom_mach.specs.Instruction.{instruction_of}
 

@@ -1,10 +1,10 @@
 ghost use Rattle.std.specs.Prelude.{◌≡◌, ◌<◌, ◌≤◌, ◌^◌, IfOk, Ok, length, vec_len};
 ghost use Rattle.std.specs.List.{list_all};
-ghost use Rattle.img_text.specs.Lines.{lines_of};
+ghost use Rattle.mach_base.specs.Lines.{lines_of};
 ghost use Rattle.atom_mach.specs.Script.{is_script_byte, is_script_line, first_bad_line, checked_script, Answers};
 
-use img_text::next_line;
-use mach_base::{OutOfMemory, Text, What};
+
+use mach_base::{OutOfMemory, Text, What, next_line};
 use std::alloc::Global;
 
 /// What is wrong with a script.

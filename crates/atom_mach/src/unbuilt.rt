@@ -1,12 +1,12 @@
 ghost use Rattle.std.specs.Prelude.{◌≡◌};
 ghost use Rattle.std.specs.List.{list_all};
-ghost use Rattle.img_text.specs.Lines.{words_of};
+ghost use Rattle.mach_base.specs.Lines.{words_of};
 ghost use Rattle.img_text.specs.Directives.{line_of};
 ghost use Rattle.atom_mach.specs.Unbuilt.{is_known, is_built_line, is_built, unbuilt_line};
 
 use crate::instruction::instruction_of;
-use img_text::{Directive, Width, line_of, next_line};
-use mach_base::Kind;
+use img_text::{Directive, Width, line_of};
+use mach_base::{Kind, next_line};
 
 /// The number of the first line of an image, from 1, whose directive is neither `text` nor `w`, or that puts a word
 /// which isn't one of the instructions that are built. The lines are right by the format.

@@ -12,4 +12,4 @@ mod context;
 mod register_name;
 
 pub use context::Context;
-pub use register_name::{RegName, reg_name};
+pub use register_name::{BadReg, RegName, names_are_read, reg_name, reg_of};

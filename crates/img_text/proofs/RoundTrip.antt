@@ -15,7 +15,7 @@ use Rattle.mach_base.specs.Machine.{Part, HasBounds, AreInOrder}
 use Rattle.img_text.specs.declared.directive.Width.TheVariants.{Eight}
 use Rattle.img_text.specs.declared.directive.Directive.{Directive}
 use Rattle.img_text.specs.declared.directive.Directive.TheVariants.{Begin, Put, Pc, Sp}
-use Rattle.img_text.specs.Lines.{lines_of, words_of}
+use Rattle.mach_base.specs.Lines.{lines_of, words_of}
 use Rattle.img_text.specs.Image.{ImageRecord, IsImage, IsWhole, segments_of, filled}
 use Rattle.img_text.specs.Directives.{◌>>=◌, line_of, directive_of, has_count, least_of, most_of, largest_of, is_comment}
 use Rattle.img_text.specs.Reading.{Draft, start, end_of, value_bytes, applied, after_line, read_line, read_lines, has_text, whole_image, no_starts, is_header, image_of_lines, image_of}

@@ -8,10 +8,10 @@ use Rattle.std.specs.Char.{is_digit, digit_value}
 use Rattle.std.specs.List.{AllByRecursion, position_from}
 use Rattle.std.specs.Str.Parse.{AllDigits, digits_value}
 use Rattle.mach_base.specs.Number.{first_bad, number_of, dec_text}
-use Rattle.img_text.specs.Lines.{is_blank, begins_with_word, onto_first, lines_of, words_of}
+use Rattle.mach_base.specs.Lines.{is_blank, begins_with_word, onto_first, lines_of, words_of}
 use Rattle.img_text.specs.Directives.{each_number}
 use Rattle.img_text.specs.Writing.{numbers_text, directive_text}
-use Rattle.img_text.proofs.Cuts.{and_no, word_goes_on}
+use Rattle.mach_base.proofs.Cuts.{and_no, word_goes_on}
 use Rattle.img_text.proofs.Parts.{AllByRecursion-both}
 use Rattle.img_text.proofs.Steps.{both_true}
 

@@ -1,4 +1,3 @@
-pub mod Lines
 pub mod Image
 pub mod Directives
 pub mod Reading

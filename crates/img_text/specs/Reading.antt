@@ -15,7 +15,7 @@ use Rattle.img_text.specs.declared.fault.LineFault.TheVariants as line_faults
 use Rattle.img_text.specs.declared.directive.Width.{Width}
 use Rattle.img_text.specs.declared.directive.Directive.{Directive}
 use Rattle.img_text.specs.declared.directive.Directive.TheVariants.{Begin, Put, Pc, Sp}
-use Rattle.img_text.specs.Lines.{lines_of, words_of}
+use Rattle.mach_base.specs.Lines.{lines_of, words_of}
 use Rattle.img_text.specs.Image.{ImageRecord, segments_of, filled}
 use Rattle.img_text.specs.Directives.{◌>>=◌, line_of, size_of}
 

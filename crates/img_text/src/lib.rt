@@ -4,8 +4,7 @@
 //! - An *image* is a list of segments in order, each with a byte for every address, and for each hart number from 0
 //!   to 15 a pc and an sp to start with, or none.
 //! - A *line* of an image file is a directive and its numbers, or is skipped. A *draft* is what the lines so far give.
-//! - `specs/Lines.antt` says what the lines of a text and the words of a line are, for other text formats too, and
-//!   `specs/Reading.antt` which image a text means, or its first faulty line, or the first count over its limit.
+//! - `specs/Reading.antt` says which image a text means, or its first faulty line, or the first count over its limit.
 //!
 //! It stands on mach_base, and what boots a machine stands on it.
 #![tactic(auto)]
@@ -16,7 +15,6 @@ mod fault;
 mod filling;
 mod image;
 mod line;
-mod lines;
 mod reading;
 mod values;
 mod writing;
@@ -25,7 +23,6 @@ pub use directive::{Directive, Width};
 pub use fault::{ImageFault, Why};
 pub use image::Image;
 pub use line::line_of;
-pub use lines::{next_line, next_word};
 pub use reading::read_image;
 pub use values::Values;
 pub use writing::write_image;

@@ -1,14 +1,13 @@
 //! One line of an image file: its directive and its numbers.
 
 ghost use Rattle.std.specs.Prelude.{◌≡◌, ◌≤◌, length};
-ghost use Rattle.img_text.specs.Lines.{words_of};
+ghost use Rattle.mach_base.specs.Lines.{words_of};
 ghost use Rattle.img_text.specs.Directives.{number_up_to, each_number, has_count, line_of};
 
 use crate::directive::{Directive, directive_of, largest_of, least_of, most_of};
 use crate::fault::Why;
-use crate::lines::next_word;
 use crate::values::Values;
-use mach_base::parse_number;
+use mach_base::{next_word, parse_number};
 
 /// The line's directive and its numbers; None for a line that is skipped.
 #[tactic(auto, unfolding(crate::specs::Directives::line_of))]

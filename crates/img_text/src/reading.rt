@@ -3,7 +3,7 @@
 ghost use Rattle.std.specs.Prelude.{◌≡◌, ◌≤◌, ◌<◌, [], length, map, replicate, None, IfOk};
 ghost use Rattle.std.specs.List.{AllByRecursion};
 ghost use Rattle.mach_base.specs.Machine.{AreSegments};
-ghost use Rattle.img_text.specs.Lines.{lines_of, words_of};
+ghost use Rattle.mach_base.specs.Lines.{lines_of, words_of};
 ghost use Rattle.img_text.specs.Image.{segments_of, filled};
 ghost use Rattle.img_text.specs.Directives.{least_of};
 ghost use Rattle.img_text.specs.Reading.{AreSound, IsShort, Leaves, Gives, start, applied, numbered, read_line, read_lines, whole_image, is_header, image_of};
@@ -15,8 +15,7 @@ use crate::directive::Directive;
 use crate::fault::{ImageFault, LineFault, Why};
 use crate::image::Image;
 use crate::line::line_of;
-use crate::lines::{next_line, next_word};
-use mach_base::{OutOfMemory, Segment, What};
+use mach_base::{OutOfMemory, Segment, What, next_line, next_word};
 use std::alloc::Global;
 
 /// What the lines so far give.

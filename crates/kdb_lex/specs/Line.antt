@@ -2,7 +2,8 @@
 use Rattle.std.specs.Prelude.{ℕ, ◌%◌, ◌==◌, ◌&&◌, ◌||◌, Bool, true, false, List, [], ◌∷◌, map, filter, length, count_by, Option, Some, None, is_none, nat_lt, codes, if◌then◌else◌}
 use Rattle.std.specs.List.{list_any, slice_split, before_first, after_first}
 use Rattle.std.specs.Str.{bytes_eq}
-use Rattle.kdb_lex.specs.Mark.{is_blank, mark_of, is_quoted_after, is_pipe, ends_word}
+use Rattle.mach_base.specs.Lines.{is_blank}
+use Rattle.kdb_lex.specs.Mark.{mark_of, is_quoted_after, is_pipe, ends_word}
 use Rattle.kdb_lex.specs.declared.mark.Mark.{Mark}
 use Rattle.kdb_lex.specs.declared.mark.Mark.TheVariants.{Blank, Pipe, Quote, Byte}
 use Rattle.kdb_lex.specs.declared.lex_fault.LexFault.{LexFault}

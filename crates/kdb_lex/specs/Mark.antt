@@ -1,11 +1,8 @@
 -- What each byte of a line is.
 use Rattle.std.specs.Prelude.{ℕ, ◌||◌, ◌==◌, Bool, true, false, not, if◌then◌else◌}
+use Rattle.mach_base.specs.Lines.{is_blank}
 use Rattle.kdb_lex.specs.declared.mark.Mark.{Mark}
 use Rattle.kdb_lex.specs.declared.mark.Mark.TheVariants.{Blank, Pipe, Quote, Byte}
-
--- a space or a tab
-abbrev pub is_blank : ℕ → Bool
-is_blank b = (b == 32) || (b == 9)
 
 -- what a byte is, inside or outside quotes
 abbrev pub mark_of : Bool → ℕ → Mark

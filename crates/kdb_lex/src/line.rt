@@ -4,9 +4,9 @@ ghost use Rattle.kdb_lex.specs.Mark.{is_pipe};
 ghost use Rattle.kdb_lex.specs.Line.{is_comment, without_comment, marks, words_of, pattern_of, filter_pattern, command_words, line_pattern, refusal_of};
 
 use crate::LexFault;
-use crate::mark::{Mark, is_blank, mark_of};
+use crate::mark::{Mark, mark_of};
 use crate::word::Word;
-use mach_base::{OutOfMemory, Text};
+use mach_base::{OutOfMemory, Text, is_blank};
 use std::alloc::Global;
 
 /// The most words before the pipe, with the command's.

@@ -1,5 +1,7 @@
 ghost use Rattle.std.specs.Prelude.{◌≡◌};
-ghost use Rattle.kdb_lex.specs.Mark.{is_blank, mark_of};
+ghost use Rattle.kdb_lex.specs.Mark.{mark_of};
+
+use mach_base::is_blank;
 
 /// What a byte of a line is.
 #[derive(Clone, Copy, Debug, PartialEq, Eq)]
@@ -12,12 +14,6 @@ pub enum Mark {
     Quote,
     /// A byte of a word.
     Byte(u8),
-}
-
-pub fn is_blank(byte: u8) -> bool
-    ensures { result ≡ is_blank byte }
-{
-    byte == b' ' || byte == b'\t'
 }
 
 /// What a byte is, inside or outside quotes.

@@ -4,6 +4,7 @@
 //! - A *hart* is a hardware thread of the simulated RISC-V machine, numbered from 0.
 //! - A *fault* is the reason why an instruction can't be executed, with the address, word or number that is at fault.
 //! - A *session* is the time from a hart's entry into the debugger to its leaving; its *reason* is the trap that opened it.
+//! - A *line* of a text ends by a line feed, the *words* of a line stand between blanks and tabs (`specs/Lines.antt`).
 //! - An *entry* is one event of the machine, as a journal lists it.
 //! - A *segment* is a range of memory with one kind of contents.
 //! - The *machine record* of `specs/Machine.antt` is the state that commands, steps and journals speak of.
@@ -13,12 +14,16 @@
 
 mod byte_text;
 mod event;
+mod lines;
 mod memory_range;
 mod number;
+mod printed;
 mod seen_by_kdb;
 
 pub use byte_text::{OutOfMemory, Text};
 pub use event::{Cause, Ending, Entry, Fault, Hart, Reason, What};
+pub use lines::{is_blank, next_line, next_word};
 pub use memory_range::{Kind, Segment};
 pub use number::{NumFault, parse_number, push_dec, push_hex};
+pub use printed::{has_bit, push_address, push_bytes, push_newline};
 pub use seen_by_kdb::{Names, Peek};

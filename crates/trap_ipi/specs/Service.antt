@@ -1,7 +1,7 @@
 -- The services of the firmware, which an ecall asks for. docs/machine.md, "Services", has the table.
-use Rattle.std.specs.Prelude.{ℕ, ◌+◌, ◌%◌, ◌^◌, ◌==◌, Bool, true, false, List, nat_lt, length, slice_index, slice_index_or, slice_set, if◌then◌else◌}
+use Rattle.std.specs.Prelude.{ℕ, ◌+◌, ◌%◌, ◌^◌, ◌==◌, Bool, true, false, List, nat_lt, length, slice_index, slice_set, if◌then◌else◌}
 use Rattle.mach_base.specs.Machine.{Context}
-use Rattle.hart_ctx.specs.Context.{start_context, with_register}
+use Rattle.hart_ctx.specs.Context.{context_of, with_register}
 use Rattle.trap_ipi.specs.declared.firmware.Served.{Served}
 use Rattle.trap_ipi.specs.declared.firmware.Served.TheVariants.{Plain, Byte, Unknown}
 
@@ -31,10 +31,6 @@ served number h c =
     else (if number == 5 then record (passed c) { vector = argument c }
     else (if number == 7 then record c { pc = c.epc; masked = false }
     else passed c)))))
-
--- the context of a hart by its number; a blank one where there is no such hart
-abbrev pub context_of : List Context → ℕ → Context
-context_of cs h = slice_index_or cs h (start_context 0 0)
 
 -- an interrupt is pending for the hart
 abbrev pub interrupted : List Context → ℕ → List Context

@@ -1,5 +1,5 @@
 use Rattle.std.proofs.Common.{◌≡◌, ◌++◌, length}
-use Rattle.img_text.specs.Lines.{lines_of}
+use Rattle.mach_base.specs.Lines.{lines_of}
 use Rattle.atom_mach.proofs.script.lines_of.Given as goal
 
 -- the lines so far and those of what is left

@@ -1,5 +1,5 @@
 use Rattle.std.proofs.Common.{◌≡◌, ◌+◌, ◌≤◌, ◌^◌, length}
-use Rattle.img_text.specs.Lines.{lines_of}
+use Rattle.mach_base.specs.Lines.{lines_of}
 use Rattle.atom_mach.specs.Unbuilt.{first_unbuilt, unbuilt_line}
 use Rattle.atom_mach.proofs.unbuilt.unbuilt_line.Given as goal
 

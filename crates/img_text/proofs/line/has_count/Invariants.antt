@@ -1,5 +1,5 @@
 use Rattle.std.proofs.Common.{◌≡◌, ◌≤◌, ◌+◌, length}
-use Rattle.img_text.specs.Lines.{words_of}
+use Rattle.mach_base.specs.Lines.{words_of}
 use Rattle.img_text.proofs.line.has_count.Given as goal
 
 -- the words so far and those that are left

@@ -1,6 +1,6 @@
 use Rattle.std.proofs.Common.{sym, ap, arith, length, ◌∙◌, length-append}
 use Rattle.std.proofs.lemmas.Result.{err_from_is_err_and}
-use Rattle.img_text.specs.Lines.{words_of}
+use Rattle.mach_base.specs.Lines.{words_of}
 use Rattle.img_text.specs.Directives.{each_number}
 use Rattle.img_text.proofs.Numbers.{numbers_end, numbers_more, numbers_fault}
 use Rattle.img_text.proofs.line.numbers_of.Goals as goal

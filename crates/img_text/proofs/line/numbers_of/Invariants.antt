@@ -1,5 +1,5 @@
 use Rattle.std.proofs.Common.{◌≡◌, ◌+◌, length}
-use Rattle.img_text.specs.Lines.{words_of}
+use Rattle.mach_base.specs.Lines.{words_of}
 use Rattle.img_text.specs.Directives.{each_number}
 use Rattle.img_text.proofs.Numbers.{prepended}
 use Rattle.img_text.proofs.line.numbers_of.Given as goal

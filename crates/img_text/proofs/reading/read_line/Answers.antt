@@ -1,5 +1,5 @@
 use Rattle.std.proofs.Common.{sym, ap, ◌∙◌, Ok}
-use Rattle.img_text.specs.Lines.{words_of}
+use Rattle.mach_base.specs.Lines.{words_of}
 use Rattle.img_text.proofs.Steps.{counted}
 use Rattle.img_text.proofs.reading.read_line.Goals as goal
 

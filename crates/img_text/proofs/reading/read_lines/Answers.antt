@@ -1,6 +1,6 @@
 use Rattle.std.proofs.Common.{arith}
 use Rattle.std.proofs.lemmas.List.{reverse-reverse}
-use Rattle.img_text.specs.Lines.{lines_of}
+use Rattle.mach_base.specs.Lines.{lines_of}
 use Rattle.img_text.specs.Blocks.{parts_of}
 use Rattle.img_text.specs.Reader.{draft_of}
 use Rattle.img_text.proofs.Steps.{lines_more, lines_sound, lines_fault, lines_end}

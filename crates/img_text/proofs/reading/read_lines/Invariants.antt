@@ -1,5 +1,5 @@
 use Rattle.std.proofs.Common.{◌≡◌, ◌+◌, ◌≤◌, [], length, replicate, None}
-use Rattle.img_text.specs.Lines.{lines_of}
+use Rattle.mach_base.specs.Lines.{lines_of}
 use Rattle.img_text.specs.Reading.{AreSound, read_lines}
 use Rattle.img_text.specs.Reader.{draft_of}
 use Rattle.img_text.proofs.reading.read_lines.Given as goal

@@ -2,7 +2,7 @@
 
 ghost use Rattle.std.specs.Prelude.{◌≡◌, ℕ, ◌-◌, ◌<◌, ◌≤◌, ◌≢◌, ◌∷◌, [], false, length, take, drop, slice_index, MatchOption, IfSome};
 ghost use Rattle.std.specs.Str.Lines.{strip_carriage_return};
-ghost use Rattle.img_text.specs.Lines.{is_blank, lines_of, words_of};
+ghost use Rattle.mach_base.specs.Lines.{is_blank, lines_of, words_of};
 
 /// The first line of a text, without its end, and what follows it; None exactly where no line is left. A line feed
 /// ends each line but the last, which may lack it, and a carriage return directly before it belongs to the end.
@@ -58,7 +58,8 @@ pub fn next_word(line: &[u8]) -> Option<(&[u8], &[u8])>
     Some(words.split_at(word_end(words)))
 }
 
-fn is_blank(byte: u8) -> bool
+/// Whether the byte is a blank or a tab.
+pub fn is_blank(byte: u8) -> bool
     ensures { result ≡ is_blank byte }
 {
     byte == b' ' || byte == b'\t'

@@ -4,7 +4,7 @@ use Rattle.std.proofs.lemmas.List.{take_all, nil_from_length}
 use Rattle.std.proofs.lemmas.Bool.{ne_eqb, eq-eqb, eqb-true, false≢true}
 use Rattle.std.proofs.Math.Seq.{drop-length}
 use Rattle.std.specs.Str.Lines.{strip_carriage_return}
-use Rattle.img_text.specs.Lines.{is_blank, begins_with_feed, begins_with_word, onto_first, lines_of, words_of}
+use Rattle.mach_base.specs.Lines.{is_blank, begins_with_feed, begins_with_word, onto_first, lines_of, words_of}
 
 pub and_no : (b : Bool) → (b && false) ≡ false
 and_no true = refl

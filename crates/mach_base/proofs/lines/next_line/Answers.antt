@@ -1,6 +1,6 @@
 use Rattle.std.proofs.Common.{arith, sym, ◌∙◌}
-use Rattle.img_text.proofs.Cuts.{lines_of-none, lines_of-one, lines_of-feed, behind}
-use Rattle.img_text.proofs.lines.next_line.Goals as goal
+use Rattle.mach_base.proofs.Cuts.{lines_of-none, lines_of-one, lines_of-feed, behind}
+use Rattle.mach_base.proofs.lines.next_line.Goals as goal
 
 pub returns-then-is_empty-clause-line : goal.returns-then-is_empty-clause-line
 returns-then-is_empty-clause-line c = lines_of-none c.args.text.now (sym c.is_empty.ensures ∙ c.if-is_empty.true)

@@ -1,5 +1,5 @@
 use Rattle.std.proofs.Common.{◌≡◌, ℕ, ◌<◌, get_or}
-use Rattle.img_text.proofs.lines.feed_at.Given as goal
+use Rattle.mach_base.proofs.lines.feed_at.Given as goal
 
 -- no byte so far is a line feed
 abbrev pub invariant-loop-i : goal.invariant-loop-i

@@ -1,6 +1,6 @@
 use Rattle.std.proofs.Common.{◌≡◌, drop}
-use Rattle.img_text.specs.Lines.{words_of}
-use Rattle.img_text.proofs.lines.blanks_before.Given as goal
+use Rattle.mach_base.specs.Lines.{words_of}
+use Rattle.mach_base.proofs.lines.blanks_before.Given as goal
 
 -- the blanks so far are no part of a word
 abbrev pub invariant-loop-i : goal.invariant-loop-i

@@ -1,6 +1,6 @@
 use Rattle.std.proofs.Common.{◌≡◌, ℕ, ◌<◌, false, get_or}
-use Rattle.img_text.specs.Lines.{is_blank}
-use Rattle.img_text.proofs.lines.word_end.Given as goal
+use Rattle.mach_base.specs.Lines.{is_blank}
+use Rattle.mach_base.proofs.lines.word_end.Given as goal
 
 -- no byte so far is a blank
 abbrev pub invariant-loop-i : goal.invariant-loop-i

@@ -1,6 +1,6 @@
 use Rattle.std.proofs.Common.{arith, sym, ◌∙◌}
-use Rattle.img_text.proofs.Cuts.{words_of-word, words_of-whole, no_word_at, past_first}
-use Rattle.img_text.proofs.lines.word_end.Goals as goal
+use Rattle.mach_base.proofs.Cuts.{words_of-word, words_of-whole, no_word_at, past_first}
+use Rattle.mach_base.proofs.lines.word_end.Goals as goal
 
 pub returns-then-is_blank-clause-some : goal.returns-then-is_blank-clause-some
 returns-then-is_blank-clause-some c = past_first c.args.line.now c.loop-i.i c.requires.word (sym c.is_blank.ensures ∙ c.if-is_blank.true)
