@@ -1,0 +1,4 @@
+pub mod InPlace
+pub mod Leads
+pub mod Local
+pub mod Rights
