@@ -9,7 +9,7 @@ use Rattle.atom_mach.specs.declared.step.Mode.{Mode}
 use Rattle.atom_mach.specs.declared.step.Mode.TheVariants.{Free, Hold, Pass, Back, Leave, Over}
 use Rattle.atom_mach.specs.declared.step.AStep.TheVariants.{Instr, Intr, Session, Enter, Line, End}
 use Rattle.atom_mach.specs.State.{State}
-use Rattle.atom_mach.specs.Texts.{has_bit}
+use Rattle.mach_base.specs.Texts.{has_bit}
 use Rattle.atom_mach.specs.Step.{Done, does, is_hart, may_run, may_pass, may_take, opening, opened_for, session, held_line, closed}
 use Rattle.atom_mach.specs.Modes.{is_alone}
 use Rattle.atom_mach.proofs.Steps.{cond_true, cond_false, and_false}

@@ -8,9 +8,9 @@ use Rattle.atom_mach.specs.declared.step.Outcome.TheVariants.{Stay, Go}
 use Rattle.mach_base.specs.declared.event.Ending.TheVariants.{ScriptEnd}
 use Rattle.atom_mach.specs.declared.step.Mode.TheVariants.{Over}
 use Rattle.atom_mach.specs.Line.{request_of}
-use Rattle.atom_mach.specs.Texts.{newline}
+use Rattle.mach_base.specs.Texts.{newline}
 use Rattle.atom_mach.specs.Step.{Done, first_prompt, output_of, prompt_text, with_read, line_said, line_text, after_line, session_lines, prefixed, mode_of_go}
-use Rattle.atom_mach.proofs.Joins.{join4}
+use Rattle.mach_base.proofs.Joins.{join4}
 
 -- what stands at a place and behind it
 pub at_place : (lines : List (List ℕ)) (i : ℕ) (line : List ℕ) (rest : List (List ℕ)) (d : List ℕ) → drop i lines ≡ line ∷ rest → i < length lines → (get_or lines i d ≡ line) × (drop (i + 1) lines ≡ rest)

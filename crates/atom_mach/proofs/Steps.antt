@@ -1,7 +1,7 @@
 -- Which steps a machine with one hart may make.
 use Rattle.std.proofs.Common.{◌≡◌, ℕ, ◌<◌, ◌==◌, ◌&&◌, ◌||◌, Bool, true, false, not, cond, IsTrue, List, [], ◌∷◌, length, get_or, Option, Some, None, Result, Ok, Err, nat_lt, is_none, option_map, refl, sym, ◌∙◌, arith, rules}
 use Rattle.std.proofs.lemmas.Bool.{false≢true}
-use Rattle.mach_base.specs.Machine.{Context, Machine}
+use Rattle.mach_base.specs.Machine.{Context, Memory, Machine}
 use Rattle.mach_base.specs.declared.event.Hart.{Hart}
 use Rattle.mach_base.specs.declared.event.Fault.{Fault}
 use Rattle.mach_base.specs.declared.event.Reason.{Reason}
@@ -11,10 +11,11 @@ use Rattle.mach_base.specs.declared.event.Ending.TheVariants.{ScriptEnd, AllHalt
 use Rattle.atom_mach.specs.declared.step.Mode.{Mode}
 use Rattle.atom_mach.specs.declared.step.Mode.TheVariants.{Free, Hold, Pass, Back, Leave, Over}
 use Rattle.atom_mach.specs.declared.step.AStep.TheVariants.{Instr, Off}
-use Rattle.atom_mach.specs.Instruction.{ebreak_word, word_fault}
+use Rattle.hart_step.specs.Faults.{word_fault}
 use Rattle.atom_mach.specs.State.{State, context_at}
-use Rattle.atom_mach.specs.Step.{Done, does, ended, is_free, holds_at_end, all_halted, is_hart, may_run, may_pass, executed, mode_after, trap, trap_in, fault_of, fetched_at, fault_of_fetched, trap_of_fetched, breakpoint_or, enabled_place, runs, is_takeable}
-use Rattle.atom_mach.specs.Texts.{has_bit}
+use Rattle.atom_mach.specs.Step.{Done, does, ended, is_free, holds_at_end, all_halted, is_hart, may_run, may_pass, executed, mode_after, trap, trap_in, fault_of, fetched_at, fault_of_fetched, trap_of_fetched, breakpoint_or, enabled_place, runs, console_text, ebreak_word}
+use Rattle.trap_ipi.specs.Interrupt.{is_takeable}
+use Rattle.mach_base.specs.Texts.{has_bit}
 use Rattle.atom_mach.specs.Modes.{is_alone}
 
 pub cond_true : {A : Type 0} (b : Bool) (x y : A) → b ≡ true → cond b x y ≡ x
@@ -58,7 +59,7 @@ all_halted-one (c ∷ []) d e = alone c.halted
 all_halted-one (c ∷ k ∷ cs) d e = absurd (omega arith)
 
 -- an instruction that is allowed
-pub does-Instr : (s : State) (h : Hart) → h.0 < length s.machine.harts → (may_run s h.0 || may_pass s h.0) ≡ true → does s (Instr h) ≡ Some (record { text = []; next = record { machine = executed s.machine h.0; mode = mode_after s.mode h.0 } })
+pub does-Instr : (s : State) (h : Hart) → h.0 < length s.machine.harts → (may_run s h.0 || may_pass s h.0) ≡ true → does s (Instr h) ≡ Some (record { text = console_text s.machine h.0; next = record { machine = executed s.machine h.0; mode = mode_after s.mode h.0 } })
 unfolding does
 does-Instr s h lt e = cond_true (is_hart s.machine h.0 && (may_run s h.0 || may_pass s h.0)) _ _ (both (is_hart s.machine h.0) (may_run s h.0 || may_pass s h.0) (search rules) e)
   where
@@ -87,9 +88,9 @@ runs_alone (Back m late) opened h e = absurd (late_none (m.0 == 0) late h e)
 runs_alone (Leave m late) opened h e = absurd (false≢true h)
 runs_alone (Over ending) opened h e = absurd (false≢true e)
 
-none_fault : (c : Context) (r : Result ℕ Fault) → trap_of_fetched c r ≡ None → fault_of_fetched c r ≡ None
-none_fault c (Err f) e = absurd (cc)
-none_fault c (Ok word) e = by_word (word == ebreak_word) (word_fault c word) e
+none_fault : (c : Context) (harts : ℕ) (m : Memory) (r : Result ℕ Fault) → trap_of_fetched c harts m r ≡ None → fault_of_fetched c harts m r ≡ None
+none_fault c harts m (Err f) e = absurd (cc)
+none_fault c harts m (Ok word) e = by_word (word == ebreak_word) (word_fault c harts m word) e
   where
     by_word : (b : Bool) (f : Option Fault) → cond b (Some Compiled) (option_map FaultReason f) ≡ None → f ≡ None
     by_word true f e = absurd (cc)
@@ -108,7 +109,7 @@ is_none-None (Some x) e = absurd (false≢true e)
 pub fault_of-trap : (s : Machine) (h : ℕ) → s.opened ≡ true → (context_at s h).halted ≡ false → trap s h ≡ None → fault_of s h ≡ None
 unfolding trap fault_of
 fault_of-trap s h opened awake e =
-    none_fault (context_at s h) (fetched_at s h) (none_behind (enabled_place (context_at s h).pc 0 s.places) _ (behind s.opened (h == 0) (context_at s h).halted _ opened awake e))
+    none_fault (context_at s h) (length s.harts) s.memory (fetched_at s h) (none_behind (enabled_place (context_at s h).pc 0 s.places) _ (behind s.opened (h == 0) (context_at s h).halted _ opened awake e))
   where
     behind : (a b c : Bool) (r : Option Reason) → a ≡ true → c ≡ false → cond (not a && b) (Some Start) (cond c None r) ≡ None → r ≡ None
     behind true b false r p q e = e

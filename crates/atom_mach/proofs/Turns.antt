@@ -13,7 +13,8 @@ use Rattle.atom_mach.specs.declared.step.Mode.{Mode}
 use Rattle.atom_mach.specs.declared.step.Mode.TheVariants.{Free, Hold, Pass, Back, Leave, Over}
 use Rattle.atom_mach.specs.declared.step.AStep.TheVariants.{Instr, Intr, Session, Off}
 use Rattle.atom_mach.specs.State.{State, context_at}
-use Rattle.atom_mach.specs.Step.{Done, does, is_hart, may_run, may_pass, may_take, opening, opened_for, trap, fault_of, is_takeable, all_halted, is_free}
+use Rattle.atom_mach.specs.Step.{Done, does, is_hart, may_run, may_pass, may_take, opening, opened_for, trap, fault_of, all_halted, is_free}
+use Rattle.trap_ipi.specs.Interrupt.{is_takeable}
 use Rattle.atom_mach.specs.Run.{first_allowed}
 use Rattle.atom_mach.specs.Modes.{is_alone, ending_of}
 use Rattle.atom_mach.proofs.Steps.{cond_true, and_true, all_halted-one}

@@ -1,4 +1,3 @@
-pub mod Instruction
 pub mod Script
 pub mod Line
 pub mod Request
@@ -8,6 +7,5 @@ pub mod Step
 pub mod Run
 pub mod Modes
 pub mod Core
-pub mod Unbuilt
 pub mod Work
 pub mod StateCode

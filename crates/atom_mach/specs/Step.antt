@@ -2,7 +2,9 @@
 use Rattle.std.specs.Prelude.{ℕ, ◌+◌, ◌^◌, ◌==◌, ◌&&◌, ◌||◌, Bool, true, false, not, List, [], ◌∷◌, ◌++◌, length, codes, Option, Some, None, Result, Ok, Err, nat_lt, nat_le, is_none, option_map, unwrap_or, if◌then◌else◌}
 use Rattle.std.specs.Cmp.Lexicographic.{pointwise}
 use Rattle.mach_base.specs.Number.{dec_text}
-use Rattle.mach_base.specs.Machine.{Context, Place, Machine}
+use Rattle.std.specs.Option.{option_to_list}
+use Rattle.mach_base.specs.Texts.{newline, has_bit}
+use Rattle.mach_base.specs.Machine.{Context, Memory, Place, Machine}
 use Rattle.mach_base.specs.declared.event.Hart.{Hart}
 use Rattle.mach_base.specs.declared.event.Fault.{Fault}
 use Rattle.mach_base.specs.declared.event.Reason.{Reason}
@@ -16,9 +18,12 @@ use Rattle.atom_mach.specs.declared.step.AStep.{AStep}
 use Rattle.atom_mach.specs.declared.step.AStep.TheVariants.{Instr, Intr, Session, Enter, Line, End, Off}
 use Rattle.atom_mach.specs.declared.step.Outcome.{Outcome}
 use Rattle.atom_mach.specs.declared.step.Outcome.TheVariants.{Stay, Go, Step as StepOut}
-use Rattle.atom_mach.specs.Instruction.{ebreak_word, word_fault, after_word}
+use Rattle.hart_step.specs.Faults.{word_fault}
+use Rattle.hart_step.specs.Execution.{contexts_after, memory_after, byte_sent}
+use Rattle.trap_ipi.specs.Interrupt.{is_takeable, after_interrupt}
 use Rattle.atom_mach.specs.Line.{Request, Nothing, Leave as LeaveRequest, ShowRegisters, Unknown, request_of}
-use Rattle.atom_mach.specs.Texts.{newline, has_bit, banner_text, with_number, registers_text, unknown_command_text}
+use Rattle.kdb_reg.specs.Registers.{registers_text}
+use Rattle.atom_mach.specs.Texts.{banner_text, with_number, unknown_command_text}
 use Rattle.atom_mach.specs.State.{State, context_at, with_context}
 
 -- Instructions and traps.
@@ -27,33 +32,41 @@ use Rattle.atom_mach.specs.State.{State, context_at, with_context}
 abbrev pub fetched_at : Machine → ℕ → Result ℕ Fault
 fetched_at s h = fetched s.memory (context_at s h).pc
 
-abbrev pub fault_of_fetched : Context → Result ℕ Fault → Option Fault
-fault_of_fetched c (Ok word) = word_fault c word
-fault_of_fetched c (Err fault) = Some fault
+abbrev pub fault_of_fetched : Context → ℕ → Memory → Result ℕ Fault → Option Fault
+fault_of_fetched c harts m (Ok word) = word_fault c harts m word
+fault_of_fetched c harts m (Err fault) = Some fault
 
 -- The fault of the hart's instruction, if any: that of the fetch, then that of the word.
 unfoldable pub fault_of : Machine → ℕ → Option Fault
-fault_of s h = fault_of_fetched (context_at s h) (fetched_at s h)
+fault_of s h = fault_of_fetched (context_at s h) (length s.harts) s.memory (fetched_at s h)
 
-abbrev pub after_fetched : Context → Result ℕ Fault → Context
-after_fetched c (Ok word) = after_word c word
-after_fetched c (Err fault) = c
+abbrev contexts_of_fetched : List Context → Memory → ℕ → Result ℕ Fault → List Context
+contexts_of_fetched cs m h (Ok word) = contexts_after cs m h word
+contexts_of_fetched cs m h (Err fault) = cs
+
+abbrev memory_of_fetched : Memory → Context → Result ℕ Fault → Memory
+memory_of_fetched m c (Ok word) = memory_after m c word
+memory_of_fetched m c (Err fault) = m
+
+-- The machine after the hart's instruction, where it doesn't fault; a step is counted.
+unfoldable pub executed : Machine → ℕ → Machine
+executed s h = record s {
+  harts = contexts_of_fetched s.harts s.memory h (fetched_at s h);
+  memory = memory_of_fetched s.memory (context_at s h) (fetched_at s h);
+  steps = s.steps + 1;
+}
+
+abbrev sent_of_fetched : List Context → ℕ → Result ℕ Fault → List ℕ
+sent_of_fetched cs h (Ok word) = option_to_list (byte_sent cs h word)
+sent_of_fetched cs h (Err fault) = []
+
+-- What the hart's instruction sends to the console.
+unfoldable pub console_text : Machine → ℕ → List ℕ
+console_text s h = sent_of_fetched s.harts h (fetched_at s h)
 
 -- one step more
 abbrev pub counted : Machine → Machine
 counted s = record s { steps = s.steps + 1 }
-
--- The machine after the hart's instruction, where it doesn't fault; a step is counted.
-unfoldable pub executed : Machine → ℕ → Machine
-executed s h = counted (with_context s h (after_fetched (context_at s h) (fetched_at s h)))
-
--- whether the hart's interrupt may be taken: pending, not masked, not halted, and there is a handler
-abbrev pub is_takeable : Context → Bool
-is_takeable c = c.pending && (not c.masked && (not c.halted && not (c.vector == 0)))
-
--- the context after the interrupt is taken
-abbrev pub after_interrupt : Context → Context
-after_interrupt c = record c { epc = c.pc; pc = c.vector; pending = false; masked = true }
 
 -- the machine after the hart's interrupt is taken; a step is counted
 abbrev pub interrupted : Machine → ℕ → Machine
@@ -65,17 +78,21 @@ enabled_place pc i [] = None
 enabled_place pc i (None ∷ places) = enabled_place pc (i + 1) places
 enabled_place pc i (Some p ∷ places) = if p.enabled && (p.addr == pc) then Some i else enabled_place pc (i + 1) places
 
+-- the word `ebreak`
+abbrev pub ebreak_word : ℕ
+ebreak_word = 0x0010_0073
+
 -- the trap of the word at the pc: an ebreak of the image, or a fault
-abbrev pub trap_of_fetched : Context → Result ℕ Fault → Option Reason
-trap_of_fetched c (Err fault) = Some (FaultReason fault)
-trap_of_fetched c (Ok word) = if word == ebreak_word then Some Compiled else option_map FaultReason (word_fault c word)
+abbrev pub trap_of_fetched : Context → ℕ → Memory → Result ℕ Fault → Option Reason
+trap_of_fetched c harts m (Err fault) = Some (FaultReason fault)
+trap_of_fetched c harts m (Ok word) = if word == ebreak_word then Some Compiled else option_map FaultReason (word_fault c harts m word)
 
 -- The trap of a hart for which breakpoints don't count: the start, none where it is halted, an ebreak or a fault.
 unfoldable pub late_trap : Machine → ℕ → Option Reason
 late_trap s h =
     if not s.opened && (h == 0) then Some Start
     else (if (context_at s h).halted then None
-    else trap_of_fetched (context_at s h) (fetched_at s h))
+    else trap_of_fetched (context_at s h) (length s.harts) s.memory (fetched_at s h))
 
 abbrev pub breakpoint_or : Option ℕ → Option Reason → Option Reason
 breakpoint_or (Some i) other = Some (Breakpoint i)
@@ -86,7 +103,7 @@ unfoldable pub trap : Machine → ℕ → Option Reason
 trap s h =
     if not s.opened && (h == 0) then Some Start
     else (if (context_at s h).halted then None
-    else breakpoint_or (enabled_place (context_at s h).pc 0 s.places) (trap_of_fetched (context_at s h) (fetched_at s h)))
+    else breakpoint_or (enabled_place (context_at s h).pc 0 s.places) (trap_of_fetched (context_at s h) (length s.harts) s.memory (fetched_at s h)))
 
 -- Modes.
 
@@ -304,7 +321,7 @@ ended s ending =
 unfoldable pub does : State → AStep → Option Done
 does s (Instr h) =
     if is_hart s.machine h.0 && (may_run s h.0 || may_pass s h.0)
-    then Some (record { text = []; next = record { machine = executed s.machine h.0; mode = mode_after s.mode h.0 } })
+    then Some (record { text = console_text s.machine h.0; next = record { machine = executed s.machine h.0; mode = mode_after s.mode h.0 } })
     else None
 does s (Intr h) =
     if is_hart s.machine h.0 && may_take s h.0

@@ -1,24 +1,14 @@
 -- What the machine and the debugger print.
-use Rattle.std.specs.Prelude.{ℕ, suc, zero, ◌+◌, ◌-◌, ◌*◌, ◌/◌, ◌%◌, ◌^◌, ◌==◌, ◌&&◌, Bool, List, [], ◌∷◌, ◌++◌, length, codes, filter, replicate, slice_index, if◌then◌else◌}
+use Rattle.std.specs.Prelude.{ℕ, ◌==◌, ◌&&◌, List, [], ◌∷◌, ◌++◌, codes, filter, if◌then◌else◌}
 use Rattle.std.specs.List.{range_with_len}
-use Rattle.mach_base.specs.Number.{hex_text, dec_text}
-use Rattle.mach_base.specs.Machine.{Context}
+use Rattle.mach_base.specs.Number.{dec_text}
+use Rattle.mach_base.specs.Texts.{newline, address_text, has_bit}
 use Rattle.mach_base.specs.declared.event.Cause.{Cause}
 use Rattle.mach_base.specs.declared.event.Cause.TheVariants.{Unmapped, NoRight, Misaligned, Illegal, BadService}
 use Rattle.mach_base.specs.declared.event.Reason.{Reason}
 use Rattle.mach_base.specs.declared.event.Reason.TheVariants.{Start, Breakpoint, Compiled, Step, Fault as FaultReason}
 use Rattle.mach_base.specs.declared.event.Ending.{Ending}
 use Rattle.mach_base.specs.declared.event.Ending.TheVariants.{ScriptEnd, AllHalted, StepLimit, PlanEnd}
-use Rattle.hart_ctx.specs.declared.register_name.RegName.TheVariants.{X}
-use Rattle.hart_ctx.specs.RegisterName.{name_of}
-
--- the end of a line
-abbrev pub newline : List ℕ
-newline = 10 ∷ []
-
--- an address: 0x and 16 digits
-unfoldable pub address_text : ℕ → List ℕ
-address_text addr = codes "0x" ++ hex_text 16 addr
 
 -- why an instruction faults, in words
 unfoldable pub cause_text : Cause → List ℕ
@@ -35,10 +25,6 @@ reason_text (Breakpoint i) = codes "Breakpoint " ++ dec_text i
 reason_text Compiled = codes "Compiled breakpoint"
 reason_text Step = codes "Step"
 reason_text (FaultReason f) = codes "Fault " ++ (cause_text f.cause ++ (codes " " ++ address_text f.addr))
-
--- whether the mask has the bit of this hart
-abbrev pub has_bit : ℕ → ℕ → Bool
-has_bit mask h = mask / 2 ^ h % 2 == 1
 
 -- the numbers, joined by one blank
 abbrev pub joined_by_blank : List ℕ → List ℕ
@@ -74,25 +60,6 @@ abbrev pub with_number : ℕ → List ℕ → List ℕ
 with_number n [] = []
 with_number n (a ∷ []) = a ∷ []
 with_number n (a ∷ b ∷ rest) = if (a == 37) && (b == 100) then dec_text n ++ rest else a ∷ with_number n (b ∷ rest)
-
--- a register and its value: the name right in 4 places, then 16 digits
-unfoldable pub register_item : Context → ℕ → List ℕ
-register_item c n =
-    replicate (4 - length (name_of (X n))) 32 ++ (name_of (X n) ++ (codes ": " ++ hex_text 16 (slice_index c.registers n)))
-
--- four registers on a line, from this one on
-unfoldable pub register_row : Context → ℕ → List ℕ
-register_row c n =
-    register_item c n ++ (codes "  " ++ (register_item c (n + 1) ++ (codes "  " ++ (register_item c (n + 2) ++ (codes "  " ++ (register_item c (n + 3) ++ newline))))))
-
--- the first rows
-abbrev pub register_rows : Context → ℕ → List ℕ
-register_rows c zero = []
-register_rows c (suc n) = register_rows c n ++ register_row c (4 * n)
-
--- all registers, four on a line, then the pc alone
-unfoldable pub registers_text : Context → List ℕ
-registers_text c = register_rows c 8 ++ (codes "  pc: " ++ (hex_text 16 c.pc ++ newline))
 
 -- the diagnostic of a command that there isn't
 unfoldable pub unknown_command_text : List ℕ → List ℕ

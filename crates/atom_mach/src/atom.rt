@@ -1,10 +1,9 @@
-use crate::boot::{boot_memory, first_context};
 use crate::one_hart::Core;
 use crate::script::checked_lines;
 use crate::step::{AStep, Mode, StepFault};
 use crate::symbols::Symbols;
-use img_text::Image;
-use mach_base::{Ending, Hart, OutOfMemory, Text};
+use img_text::{Image, boot};
+use mach_base::{Ending, OutOfMemory, Text};
 use std::alloc::Global;
 use std::marker::Model;
 
@@ -54,14 +53,12 @@ impl Atom {
         ensures state { IfOk result (λ atom. atom ≡ start_state image.now names script.now harts limit) }
     {
         let _none = &names.count;
-        let map = boot_memory(alloc, image)?;
+        let booted = boot(alloc, image, harts)?;
         let lines = checked_lines(alloc, script)?;
-        let mut contexts = Vec::with_capacity(alloc, 1)?;
-        contexts.push(first_context(image, Hart(0)))?;
         Ok(Atom {
             core: Core {
-                contexts,
-                map,
+                contexts: booted.ctxs,
+                map: booted.map,
                 lines,
                 read: 0,
                 limit,
@@ -123,6 +120,7 @@ mod tests {
     use super::*;
     use crate::check_script;
     use img_text::read_image;
+    use mach_base::Hart;
     use std::test::Fail;
 
     #[test]

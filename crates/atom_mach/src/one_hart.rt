@@ -1,18 +1,26 @@
 ghost use Rattle.std.specs.Prelude.{◌≡◌, ◌+◌, ◌<◌, ◌≤◌, ◌++◌, IsTrue, OnOk, IfOk, vec_len};
+ghost use Rattle.std.specs.Option.{option_to_list};
 ghost use Rattle.atom_mach.specs.Line.{request_of};
 ghost use Rattle.atom_mach.specs.Step.{first_prompt, output_of, outcome_of};
 ghost use Rattle.atom_mach.specs.Modes.{owed, is_alone};
 
-use crate::instruction::{EBREAK, execute_word, word_fault};
 use crate::line::{Request, request_of};
 use crate::step::{AStep, Mode, Outcome};
-use crate::texts::{push_banner, push_bytes, push_newline, push_registers, push_unknown_command};
+use crate::texts::{push_banner, push_unknown_command};
 use hart_ctx::Context;
-use mach_base::{Ending, Fault, Hart, OutOfMemory, Reason, Text, push_dec};
+use hart_step::{Did, exec, fault_of};
+use kdb_reg::show_regs;
+use mach_base::{
+    Ending, Fault, Hart, OutOfMemory, Reason, Text, push_bytes, push_dec, push_newline,
+};
 use mem_map::Map;
+use trap_ipi::{take, takeable};
 
 /// The only hart.
 const HART: Hart = Hart(0);
+
+/// The word `ebreak`.
+const EBREAK: u32 = 0x0010_0073;
 
 /// The machine with one hart, from the inside.
 #[derive(Drop)]
@@ -40,7 +48,10 @@ impl Core {
     ghost use Rattle.atom_mach.specs.Run.{Turns};
     ghost use Rattle.atom_mach.specs.Work.{work_left};
     ghost use Rattle.atom_mach.specs.declared.step.AStep.TheVariants.{Instr, Intr, Off};
-    ghost use Rattle.atom_mach.specs.Step.{fault_of, trap, executed, is_takeable, may_run, may_pass, may_take, owes, mode_after, mode_of_go, opening, with_read, line_said, line_text, session_lines, session, prefixed, is_free, is_true_ending, does};
+    ghost use Rattle.std.specs.Prelude.{length};
+    ghost use Rattle.std.specs.Option.{option_to_list};
+    ghost use Rattle.trap_ipi.specs.Interrupt.{is_takeable};
+    ghost use Rattle.atom_mach.specs.Step.{fault_of, trap, executed, console_text, may_run, may_pass, may_take, owes, mode_after, mode_of_go, opening, with_read, line_said, line_text, session_lines, session, prefixed, is_free, is_true_ending, does};
     ghost use Rattle.atom_mach.specs.Core.{machine_of, state_of};
 
     /// Makes the first step that is allowed of taking the interrupt, opening the session, executing, and ending.
@@ -78,7 +89,15 @@ impl Core {
         ensures now { OnErr result (does (state_of self.old) step ≢ None) }
     {
         match step {
-            AStep::Instr(hart) => Ok(hart.0 == 0 && self.instruction()),
+            AStep::Instr(hart) => {
+                if hart.0 != 0 {
+                    return Ok(false);
+                }
+                match self.instruction(out) {
+                    Ok(done) => Ok(done),
+                    Err(OutOfMemory) => Err(OutOfMemory),
+                }
+            }
             AStep::Intr(hart) => Ok(hart.0 == 0 && self.interrupt()),
             AStep::Session(hart) => {
                 if hart.0 != 0 {
@@ -99,6 +118,13 @@ impl Core {
         }
     }
 
+    /// The number of harts.
+    fn harts(&self) -> u8
+        ensures { result ≡ length self.now.contexts.items }
+    {
+        self.contexts.len() as u8
+    }
+
     /// The fault of the hart's instruction.
     #[tactic(auto, unfolding(crate::specs::Step::fault_of))]
     pub fn fault(&self) -> Option<Fault>
@@ -106,7 +132,7 @@ impl Core {
     {
         let context = &self.contexts[0];
         match self.map.fetch(context.pc) {
-            Ok(word) => word_fault(context, word),
+            Ok(word) => fault_of(context, self.harts(), &self.map, word),
             Err(fault) => Some(fault),
         }
     }
@@ -126,15 +152,14 @@ impl Core {
         match self.map.fetch(context.pc) {
             Err(fault) => Some(Reason::Fault(fault)),
             Ok(EBREAK) => Some(Reason::Compiled),
-            Ok(word) => word_fault(context, word).map(Reason::Fault),
+            Ok(word) => fault_of(context, self.harts(), &self.map, word).map(Reason::Fault),
         }
     }
 
     fn is_takeable(&self) -> bool
         ensures { (c : _) → self.now.contexts.items ≡ c ∷ [] → result ≡ is_takeable c }
     {
-        let context = &self.contexts[0];
-        context.pending && !context.masked && !context.halted && context.vector != 0
+        takeable(&self.contexts[0])
     }
 
     /// Whether the hart may take its interrupt.
@@ -166,39 +191,53 @@ impl Core {
         matches!(self.mode, Mode::Pass { .. }) && self.fault().is_none()
     }
 
-    /// Executes the hart's instruction; this is the mode then.
-    #[tactic(auto, unfolding(crate::specs::Step::executed, crate::specs::Step::fault_of))]
-    fn execute(&mut self, mode: Mode)
+    /// Executes the hart's instruction; this is the mode then. The answer is the byte that goes to the console, if any.
+    #[tactic(auto, unfolding(crate::specs::Step::executed, crate::specs::Step::fault_of, crate::specs::Step::console_text))]
+    fn execute(&mut self, mode: Mode) -> Option<u8>
         requires right { fault_of (machine_of self.old) 0 ≡ None }
         requires alone { IsTrue (is_alone mode) }
         requires room { self.old.steps + 1 + owed mode ≤ self.old.limit + self.old.read }
         ensures machine { machine_of self.new ≡ executed (machine_of self.old) 0 }
         ensures mode { self.new.mode ≡ mode }
+        ensures console { option_to_list result ≡ console_text (machine_of self.old) 0 }
     {
-        let context = &mut self.contexts[0];
-        match self.map.fetch(context.pc) {
-            Ok(word) => execute_word(context, word),
+        let word = match self.map.fetch(self.contexts[0].pc) {
+            Ok(word) => word,
             Err(_) => unreachable!(),
-        }
+        };
         self.steps += 1;
         self.mode = mode;
+        match exec(self.contexts.as_mut_slice(), &mut self.map, HART, word) {
+            Did::Done(byte) => byte,
+            Did::Fault(_) => unreachable!(),
+        }
     }
 
-    /// Executes the hart's instruction where that is allowed; false means that it isn't, and nothing is changed.
-    pub fn instruction(&mut self) -> bool
-        ensures done { IsTrue result → does (state_of self.old) (Instr (record { 0 = 0 })) ≡ Some (record { text = []; next = state_of self.new }) }
-        ensures not_now { result ≡ false → does (state_of self.old) (Instr (record { 0 = 0 })) ≡ None }
-        ensures kept { result ≡ false → state_of self.new ≡ state_of self.old }
+    /// Executes the hart's instruction where that is allowed, appending its console byte; false means that it isn't, and
+    /// nothing is changed.
+    pub fn instruction(&mut self, out: &mut Vec<u8>) -> Result<bool, OutOfMemory>
+        requires { out.old.items ≡ [] }
+        ensures done { IfOk result (λ ok. IsTrue ok → does (state_of self.old) (Instr (record { 0 = 0 })) ≡ Some (record { text = out.new.items; next = state_of self.new })) }
+        ensures not_now { IfOk result (λ ok. ok ≡ false → does (state_of self.old) (Instr (record { 0 = 0 })) ≡ None) }
+        ensures kept { IfOk result (λ ok. ok ≡ false → state_of self.new ≡ state_of self.old) }
+        ensures silent { IfOk result (λ ok. ok ≡ false → out.new.items ≡ []) }
+        ensures now { OnErr result (does (state_of self.old) (Instr (record { 0 = 0 })) ≢ None) }
     {
         if self.may_run() {
-            self.execute(Mode::Free);
-            return true;
+            let byte = self.execute(Mode::Free);
+            return match push_console(out, byte) {
+                Ok(()) => Ok(true),
+                Err(OutOfMemory) => Err(OutOfMemory),
+            };
         }
         if self.may_pass() {
-            self.execute(self.mode_after_pass());
-            return true;
+            let byte = self.execute(self.mode_after_pass());
+            return match push_console(out, byte) {
+                Ok(()) => Ok(true),
+                Err(OutOfMemory) => Err(OutOfMemory),
+            };
         }
-        false
+        Ok(false)
     }
 
     /// The mode after the instruction that is owed.
@@ -228,11 +267,7 @@ impl Core {
         if !self.may_take() {
             return false;
         }
-        let context = &mut self.contexts[0];
-        context.epc = context.pc;
-        context.pc = context.vector;
-        context.pending = false;
-        context.masked = true;
+        take(&mut self.contexts[0]);
         self.steps += 1;
         true
     }
@@ -356,6 +391,16 @@ fn push_prompt(out: &mut Vec<u8>) -> Result<(), OutOfMemory>
     Ok(())
 }
 
+/// Appends the byte that an instruction sends to the console, if any.
+fn push_console(out: &mut Vec<u8>, byte: Option<u8>) -> Result<(), OutOfMemory>
+    ensures { OnOk result (out.new.items ≡ out.old.items ++ option_to_list byte) }
+{
+    if let Some(byte) = byte {
+        out.push(byte)?;
+    }
+    Ok(())
+}
+
 /// Appends what a line prints behind its echo, and says whether the session goes on.
 fn push_output(out: &mut Vec<u8>, line: &[u8], context: &Context) -> Result<Outcome, OutOfMemory>
     ensures output { OnOk result (out.new.items ≡ out.old.items ++ output_of (request_of line.now) context.now) }
@@ -365,7 +410,7 @@ fn push_output(out: &mut Vec<u8>, line: &[u8], context: &Context) -> Result<Outc
         Request::Nothing => Ok(Outcome::Stay),
         Request::Leave => Ok(Outcome::Go),
         Request::ShowRegisters => {
-            push_registers(out, context)?;
+            show_regs(context, out)?;
             Ok(Outcome::Stay)
         }
         Request::Unknown(word) => {

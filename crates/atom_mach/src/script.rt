@@ -3,7 +3,6 @@ ghost use Rattle.std.specs.List.{list_all};
 ghost use Rattle.mach_base.specs.Lines.{lines_of};
 ghost use Rattle.atom_mach.specs.Script.{is_script_byte, is_script_line, first_bad_line, checked_script, Answers};
 
-
 use mach_base::{OutOfMemory, Text, What, next_line};
 use std::alloc::Global;
 

@@ -1,34 +1,9 @@
-ghost use Rattle.std.specs.Prelude.{◌≡◌, ◌+◌, ◌*◌, ◌<◌, ◌≤◌, ◌^◌, List, [], ◌∷◌, ◌++◌, OnOk, OnErr, replicate};
-ghost use Rattle.mach_base.specs.Number.{hex_text, dec_text};
-ghost use Rattle.atom_mach.specs.Texts.{newline, address_text, cause_text, reason_text, banner_text, ending_text, ending_line, register_item, register_row, register_rows, registers_text, unknown_command_text};
+ghost use Rattle.std.specs.Prelude.{◌≡◌, ◌++◌, OnOk, OnErr};
+ghost use Rattle.atom_mach.specs.Texts.{cause_text, reason_text, banner_text, ending_text, ending_line, unknown_command_text};
 
-use hart_ctx::{Context, RegName, reg_name};
-use mach_base::{Cause, Ending, Hart, OutOfMemory, Reason, push_dec, push_hex};
-
-/// Appends bytes.
-pub fn push_bytes(out: &mut Vec<u8>, bytes: &[u8]) -> Result<(), OutOfMemory>
-    ensures { OnOk result (out.new.items ≡ out.old.items ++ bytes.now) }
-{
-    out.extend_from_slice(bytes)?;
-    Ok(())
-}
-
-/// Appends the end of a line.
-pub fn push_newline(out: &mut Vec<u8>) -> Result<(), OutOfMemory>
-    ensures { OnOk result (out.new.items ≡ out.old.items ++ newline) }
-{
-    out.push(b'\n')?;
-    Ok(())
-}
-
-#[tactic(auto, unfolding(crate::specs::Texts::address_text))]
-fn push_address(out: &mut Vec<u8>, addr: u64) -> Result<(), OutOfMemory>
-    ensures { OnOk result (out.new.items ≡ out.old.items ++ address_text addr) }
-{
-    push_bytes(out, b"0x")?;
-    push_hex(out, addr, 16)?;
-    Ok(())
-}
+use mach_base::{
+    Cause, Ending, Hart, OutOfMemory, Reason, push_address, push_bytes, push_dec, push_newline,
+};
 
 #[tactic(auto, unfolding(crate::specs::Texts::cause_text))]
 fn push_cause(out: &mut Vec<u8>, cause: Cause) -> Result<(), OutOfMemory>
@@ -119,65 +94,6 @@ fn push_ending_parts(out: &mut Vec<u8>, ending: Ending, steps: u64) -> Result<()
     push_bytes(out, b" after ")?;
     push_dec(out, steps)?;
     push_bytes(out, b" steps")?;
-    push_newline(out)?;
-    Ok(())
-}
-
-fn push_blanks(out: &mut Vec<u8>, count: usize) -> Result<(), OutOfMemory>
-    ensures { OnOk result (out.new.items ≡ out.old.items ++ replicate count 32) }
-{
-    for _i in 0..count {
-        out.push(b' ')?;
-    }
-    Ok(())
-}
-
-#[tactic(auto, unfolding(crate::specs::Texts::register_item))]
-fn push_register_item(out: &mut Vec<u8>, context: &Context, number: u8) -> Result<(), OutOfMemory>
-    requires { number < 32 }
-    ensures { OnOk result (out.new.items ≡ out.old.items ++ register_item context.now number) }
-{
-    let name = reg_name(RegName::X(number)).as_bytes();
-    push_blanks(out, 4usize.saturating_sub(name.len()))?;
-    push_bytes(out, name)?;
-    push_bytes(out, b": ")?;
-    push_hex(out, context.get(number), 16)?;
-    Ok(())
-}
-
-#[tactic(auto, unfolding(crate::specs::Texts::register_row))]
-fn push_register_row(out: &mut Vec<u8>, context: &Context, first: u8) -> Result<(), OutOfMemory>
-    requires { first + 3 < 32 }
-    ensures { OnOk result (out.new.items ≡ out.old.items ++ register_row context.now first) }
-{
-    push_register_item(out, context, first)?;
-    push_bytes(out, b"  ")?;
-    push_register_item(out, context, first + 1)?;
-    push_bytes(out, b"  ")?;
-    push_register_item(out, context, first + 2)?;
-    push_bytes(out, b"  ")?;
-    push_register_item(out, context, first + 3)?;
-    push_newline(out)?;
-    Ok(())
-}
-
-fn push_register_rows(out: &mut Vec<u8>, context: &Context) -> Result<(), OutOfMemory>
-    ensures { OnOk result (out.new.items ≡ out.old.items ++ register_rows context.now 8) }
-{
-    for row in 0..8u8 {
-        push_register_row(out, context, 4 * row)?;
-    }
-    Ok(())
-}
-
-/// Appends all registers, four on a line, then the pc alone.
-#[tactic(auto, unfolding(crate::specs::Texts::registers_text))]
-pub fn push_registers(out: &mut Vec<u8>, context: &Context) -> Result<(), OutOfMemory>
-    ensures { OnOk result (out.new.items ≡ out.old.items ++ registers_text context.now) }
-{
-    push_register_rows(out, context)?;
-    push_bytes(out, b"  pc: ")?;
-    push_hex(out, context.pc, 16)?;
     push_newline(out)?;
     Ok(())
 }

@@ -5,3 +5,5 @@ pub mod Steps
 pub mod Spelled
 pub mod Texts
 pub mod RoundTrip
+pub mod PartsJoined
+pub mod Harts

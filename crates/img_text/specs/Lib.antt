@@ -4,3 +4,4 @@ pub mod Reading
 pub mod Blocks
 pub mod Reader
 pub mod Writing
+pub mod Boot

@@ -6,7 +6,9 @@
 //! - A *line* of an image file is a directive and its numbers, or is skipped. A *draft* is what the lines so far give.
 //! - `specs/Reading.antt` says which image a text means, or its first faulty line, or the first count over its limit.
 //!
-//! It stands on mach_base, and what boots a machine stands on it.
+//! - To *boot* is to give a machine the image's memory and its harts' first contexts (`specs/Boot.antt`).
+//!
+//! It stands on memory and on the harts' contexts; the atomic machine stands on it.
 #![tactic(auto)]
 
 mod blocks;
@@ -16,6 +18,7 @@ mod filling;
 mod image;
 mod line;
 mod reading;
+mod start;
 mod values;
 mod writing;
 
@@ -24,6 +27,7 @@ pub use fault::{ImageFault, Why};
 pub use image::Image;
 pub use line::line_of;
 pub use reading::read_image;
+pub use start::{Booted, boot};
 pub use values::Values;
 pub use writing::write_image;
 

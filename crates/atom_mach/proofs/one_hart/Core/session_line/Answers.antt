@@ -14,7 +14,7 @@ returns-clause-line c = λ line rest e.
     let found = at_place core.lines.items core.read line rest c.index.result.now e (omega arith) in
     let same_line : c.as_bytes-line.result.now ≡ line = c.as_bytes-line.ensures ∙ (c.index.ensures ∙ found.0) in
     let same_context : c.index-2.result.now ≡ context_at (machine_of core) 0 = c.index-2.ensures ∙ context_one core.contexts.items c.index-2.result.now (start_context 0 0) (omega (arith, core.contexts.ok.0, core.one_hart)) in (
-      spoken c.args.out.now.items c.push_prompt.new.out.items c.push_bytes.new.out.items c.push_newline.new.out.items c.push_output.new.out.items c.as_bytes-line.result.now line c.index-2.result.now (context_at (machine_of core) 0) same_line same_context c.in_ok-push_prompt.ensures c.in_ok-push_bytes.ensures c.in_ok-push_newline.ensures c.in_ok-outcome.ensures.output,
+      spoken c.args.out.now.items c.push_prompt.new.out.items c.push_bytes.new.out.items c.push_newline.new.out.items c.push_output.new.out.items c.as_bytes-line.result.now line c.index-2.result.now (context_at (machine_of core) 0) same_line same_context c.in_ok-push_prompt.ensures c.in_ok-push_bytes.ensures.ok c.in_ok-push_newline.ensures.ok c.in_ok-outcome.ensures.output,
       rw same_line at c.in_ok-outcome.ensures.outcome,
       ap (λ unread. record (machine_of core) { unread = unread; lines_read = core.read + 1 }) found.1,
     )

@@ -3,12 +3,12 @@ use Rattle.std.proofs.Math.Seq.{drop-cons}
 use Rattle.std.proofs.lemmas.List.{drop_all}
 use Rattle.mach_base.specs.Machine.{Machine}
 use Rattle.atom_mach.specs.Core.{machine_of}
-use Rattle.atom_mach.specs.Texts.{newline}
+use Rattle.mach_base.specs.Texts.{newline}
 use Rattle.atom_mach.specs.Step.{first_prompt, prefixed, session_lines, with_read, line_said, line_text, mode_of_go}
 use Rattle.atom_mach.specs.declared.step.Outcome.TheVariants.{Stay, Go}
 use Rattle.atom_mach.specs.declared.step.Mode.TheVariants.{Over}
 use Rattle.mach_base.specs.declared.event.Ending.TheVariants.{ScriptEnd}
-use Rattle.atom_mach.proofs.Joins.{join2}
+use Rattle.mach_base.proofs.Joins.{join2}
 use Rattle.atom_mach.proofs.Steps.{same_done}
 use Rattle.atom_mach.proofs.Sessions.{session_lines-stay, session_lines-go, session_lines-end}
 use Rattle.atom_mach.proofs.one_hart.Core.session_lines.Goals as goal
@@ -55,4 +55,4 @@ returns c =
     ∙ ap (λ u. prefixed c.loop-self.out.items (session_lines (record { 0 = 0 }) u s)) unread
     ∙ session_lines-end (record { 0 = 0 }) s c.loop-self.out.items
     ∙ same_done (c.loop-self.out.items ++ (first_prompt ++ newline)) c.push_newline.new.out.items s s (Over ScriptEnd) (Over ScriptEnd)
-    (join2 c.loop-self.out.items c.push_prompt.new.out.items c.push_newline.new.out.items first_prompt newline c.in_ok-push_prompt.ensures c.in_ok-push_newline.ensures) refl refl
+    (join2 c.loop-self.out.items c.push_prompt.new.out.items c.push_newline.new.out.items first_prompt newline c.in_ok-push_prompt.ensures c.in_ok-push_newline.ensures.ok) refl refl

@@ -12,6 +12,11 @@ hart_zero h e = ap (λ (n : ℕ). record { 0 = n }) e
 pub returns-then-hart-ne0-clause-not_now : goal.returns-then-hart-ne0-clause-not_now
 returns-then-hart-ne0-clause-not_now c = λ _.
     let core = c.args.self.now in
+    rw c.in-Instr.is (does-Instr-other (state_of core) c.in-Instr.hart (omega (arith, core.contexts.ok.0, core.one_hart)) (grind (arith, nat_tests)))
+
+pub returns-then-hart-ne0-2-clause-not_now : goal.returns-then-hart-ne0-2-clause-not_now
+returns-then-hart-ne0-2-clause-not_now c = λ _.
+    let core = c.args.self.now in
     rw c.in-Session.is (does-Session-other (state_of core) c.in-Session.hart (omega (arith, core.contexts.ok.0, core.one_hart)) (grind (arith, nat_tests)))
 
 pub returns-in_default-clause-not_now : goal.returns-in_default-clause-not_now
@@ -20,15 +25,15 @@ returns-in_default-clause-not_now c = λ _.
     let zero : c.in-Session.hart.0 ≡ 0 = omega arith in
     rw c.in-Session.is (does-Session-none (state_of core) c.in-Session.hart (rw zero (sym c.opening.ensures ∙ c.in_default.is)))
 
-pub returns-in-Ok-clause-done : goal.returns-in-Ok-clause-done
-returns-in-Ok-clause-done c = λ _.
+pub returns-in-Ok-session-clause-done : goal.returns-in-Ok-session-clause-done
+returns-in-Ok-session-clause-done c = λ _.
     let core = c.args.self.now in
     let zero : c.in-Session.hart ≡ record { 0 = 0 } = hart_zero c.in-Session.hart (omega arith) in
     let one : length core.contexts.items ≡ 1 = omega (arith, core.contexts.ok.0, core.one_hart) in
-    rw (c.in-Session.is, zero) (does-Session (state_of core) (record { 0 = 0 }) c.in-Some.reason (rw one refl) (sym c.opening.ensures ∙ c.in-Some.is) ∙ ap Some c.in-Ok.ensures)
+    rw (c.in-Session.is, zero) (does-Session (state_of core) (record { 0 = 0 }) c.in-Some.reason (rw one refl) (sym c.opening.ensures ∙ c.in-Some.is) ∙ ap Some c.in-Ok-session.ensures)
 
-pub returns-in-Err-clause-now : goal.returns-in-Err-clause-now
-returns-in-Err-clause-now c = λ none.
+pub returns-in-Err-session-clause-now : goal.returns-in-Err-session-clause-now
+returns-in-Err-session-clause-now c = λ none.
     let core = c.args.self.now in
     let zero : c.in-Session.hart ≡ record { 0 = 0 } = hart_zero c.in-Session.hart (omega arith) in
     let one : length core.contexts.items ≡ 1 = omega (arith, core.contexts.ok.0, core.one_hart) in
@@ -37,11 +42,6 @@ returns-in-Err-clause-now c = λ none.
 
 pub returns-else-hart-eq0-clause-not_now : goal.returns-else-hart-eq0-clause-not_now
 returns-else-hart-eq0-clause-not_now c = λ e.
-    let core = c.args.self.now in
-    rw c.in-Instr.is (does-Instr-other (state_of core) c.in-Instr.hart (omega (arith, core.contexts.ok.0, core.one_hart)) e)
-
-pub returns-else-hart-eq0-2-clause-not_now : goal.returns-else-hart-eq0-2-clause-not_now
-returns-else-hart-eq0-2-clause-not_now c = λ e.
     let core = c.args.self.now in
     rw c.in-Intr.is (does-Intr-other (state_of core) c.in-Intr.hart (omega (arith, core.contexts.ok.0, core.one_hart)) e)
 

@@ -2,8 +2,8 @@ use Rattle.std.proofs.Common.{◌≡◌, ◌≤◌, ◌++◌, ◌∷◌, [], map
 use Rattle.std.proofs.lemmas.List.{take_all}
 use Rattle.std.proofs.lemmas.List.{length-map}
 use Rattle.mach_base.specs.Machine.{Part}
-use Rattle.atom_mach.proofs.PartsJoined.{bytes_more, AreContents-parts, parts_of-parts}
-use Rattle.atom_mach.proofs.boot.boot_memory.Goals as goal
+use Rattle.img_text.proofs.PartsJoined.{bytes_more, AreContents-parts, parts_of-parts}
+use Rattle.img_text.proofs.start.boot_memory.Goals as goal
 
 pub loop-i-preserved : goal.loop-i-preserved
 loop-i-preserved c =

@@ -1,6 +1,6 @@
 use Rattle.std.proofs.Common.{◌≡◌, drop}
-use Rattle.atom_mach.specs.State.{first_text}
-use Rattle.atom_mach.proofs.boot.first_text.Given as goal
+use Rattle.img_text.specs.Boot.{first_text}
+use Rattle.img_text.proofs.start.first_text.Given as goal
 
 -- no segment so far holds text
 abbrev pub invariant-loop-segment : goal.invariant-loop-segment

@@ -1,5 +1,5 @@
 use Rattle.std.proofs.Common.{◌≡◌, map, take}
-use Rattle.atom_mach.proofs.boot.boot_memory.Given as goal
+use Rattle.img_text.proofs.start.boot_memory.Given as goal
 
 -- the bytes of the segments so far
 abbrev pub invariant-loop-i : goal.invariant-loop-i
