@@ -42,6 +42,19 @@ fn hart(a0: u64, a1: u64, a2: u64) -> Context {
     ctx
 }
 
+/// What the execution of a word by one of two harts did, and both contexts afterwards.
+fn executed(
+    first: Context,
+    second: Context,
+    map: &mut Map,
+    h: u8,
+    word: u32,
+) -> (Did, Context, Context) {
+    let mut ctxs = [first, second];
+    let did = exec(&mut ctxs, map, Hart(h % 2), word);
+    (did, ctxs[0], ctxs[1])
+}
+
 #[test]
 fn each_form_has_its_effect(rt: HostRuntime) -> Result<(), Fail> {
     // A word with the values of a0, a1 and a2 before it, the register that it writes with its value, and the pc after it.
@@ -97,19 +110,14 @@ fn each_form_has_its_effect(rt: HostRuntime) -> Result<(), Fail> {
     for (word, (a0, a1, a2), (rd, value), pc) in table {
         let mut map = memory(rt.alloc())?;
         let other = hart(4, 5, 6);
-        let mut ctxs = [other, hart(a0, a1, a2)];
-        let leads = next(&ctxs[1], 2, word);
-        let mut want = ctxs[1];
-        want.set(rd, value);
+        let before = hart(a0, a1, a2);
+        let mut want = before;
+        want.set(rd % 32, value);
         want.pc = pc;
-        assert_eq!(rt;
-            exec(&mut ctxs, &mut map, Hart(1), word),
-            Did::Done(None),
-            "at {word:x}"
-        );
-        assert_eq!(rt; ctxs[1], want, "at {word:x}");
-        assert_eq!(rt; ctxs[0], other);
-        assert_eq!(rt; leads, After::At(pc));
+        assert_eq!(rt; next(&before, 2, word), After::At(pc));
+        let (did, first, second) = executed(other, before, &mut map, 1, word);
+        assert_eq!(rt; did, Did::Done(None), "at {word:x}");
+        assert_eq!(rt; (first, second), (other, want), "at {word:x}");
     }
     Ok(())
 }
@@ -139,24 +147,29 @@ fn each_fault_changes_nothing(rt: HostRuntime) -> Result<(), Fail> {
         let mut before = hart(a0, a1, 3);
         before.set(17, a7);
         let other = hart(4, 5, 6);
-        let mut ctxs = [before, other];
         let fault = Fault { cause, addr };
         assert_eq!(rt; fault_of(&before, 2, &map, word), Some(fault));
-        assert_eq!(rt; exec(&mut ctxs, &mut map, Hart(0), word), Did::Fault(fault));
-        assert_eq!(rt; (ctxs[0], ctxs[1]), (before, other));
+        let (did, first, second) = executed(before, other, &mut map, 0, word);
+        assert_eq!(rt; did, Did::Fault(fault));
+        assert_eq!(rt; (first, second), (before, other));
         assert_eq!(rt; map.load(0x2000, 8), Ok(FIRST));
     }
     Ok(())
 }
 
-/// Executes the words one after the other, each for its hart; none faults.
-fn all_done(ctxs: &mut [Context; 2], map: &mut Map, words: &[(u8, u32)]) -> bool {
+/// Executes the words one after the other, each for its hart; gives hart 0's context then, None where a word faults.
+fn all_done(map: &mut Map, words: &[(u8, u32)]) -> Option<Context> {
+    let mut first = hart(5, 0x2000, 9);
+    let mut second = first;
     for (h, word) in words {
-        if *h >= 2 || exec(ctxs.as_mut_slice(), map, Hart(*h), *word) != Did::Done(None) {
-            return false;
+        let (did, one, two) = executed(first, second, map, *h, *word);
+        if did != Did::Done(None) {
+            return None;
         }
+        first = one;
+        second = two;
     }
-    true
+    Some(first)
 }
 
 #[test]
@@ -206,9 +219,8 @@ fn reservations_end_by_stores_of_other_harts(rt: HostRuntime) -> Result<(), Fail
     ];
     for (words, a0, stands) in table {
         let mut map = memory(rt.alloc())?;
-        let mut ctxs = [hart(5, 0x2000, 9), hart(5, 0x2000, 9)];
-        assert!(rt; all_done(&mut ctxs, &mut map, words));
-        assert_eq!(rt; ctxs[0].get(10), a0);
+        let done = all_done(&mut map, words);
+        assert_eq!(rt; done.map(|ctx| ctx.get(10)), Some(a0));
         assert_eq!(rt; map.load(0x2000, 8), Ok(stands));
     }
     Ok(())
@@ -219,14 +231,10 @@ fn the_firmware_answers_an_ecall(rt: HostRuntime) -> Result<(), Fail> {
     let mut map = memory(rt.alloc())?;
     let mut caller = hart(0x141, 2, 3);
     caller.set(17, 1);
-    let mut ctxs = [caller, hart(4, 5, 6)];
-    assert_eq!(rt;
-        exec(&mut ctxs, &mut map, Hart(0), 0x73),
-        Did::Done(Some(0x41))
-    );
     let mut want = caller;
     want.pc = 0x1004;
-    assert_eq!(rt; ctxs[0], want);
+    let (did, first, _) = executed(caller, hart(4, 5, 6), &mut map, 0, 0x73);
+    assert_eq!(rt; (did, first), (Did::Done(Some(0x41)), want));
     want.set(17, 7);
     want.epc = 0x2000;
     assert_eq!(rt; next(&want, 2, 0x73), After::At(0x2000));

@@ -8,7 +8,7 @@ use Rattle.atom_mach.specs.declared.script.ScriptFault.TheVariants as script_fau
 use Rattle.atom_mach.specs.Script.{checked_script}
 use Rattle.kdbsim_top.specs.declared.status.File.TheVariants.{Image, Script}
 use Rattle.kdbsim_top.specs.declared.status.Status.{Status}
-use Rattle.kdbsim_top.specs.declared.status.Status.TheVariants.{Done, Usage, ReadFault, BadImage, BadScript, TooLarge, Unbuilt, WriteFault, OutOfMemory}
+use Rattle.kdbsim_top.specs.declared.status.Status.TheVariants.{Done, Usage, ReadFault, BadImage, BadScript, TooLarge, WriteFault, OutOfMemory}
 use Rattle.kdbsim_top.specs.Inputs.{HasImage, HasScript, script_refusal, script_limit, refusal_of_check}
 use Rattle.kdbsim_top.specs.Stages.{IsRightImage, IsImageRefusal, IsScriptRefusal, FailsAtImage, FailsAtScript}
 
@@ -20,7 +20,6 @@ fails_at_image files name bytes before after (ReadFault Script) told h = absurd 
 fails_at_image files name bytes before after (BadImage line why) told h = record { bytes = bytes; told = told; refused = h }
 fails_at_image files name bytes before after (BadScript line) told h = absurd h
 fails_at_image files name bytes before after (TooLarge what size) told h = record { bytes = bytes; told = told; refused = h }
-fails_at_image files name bytes before after (Unbuilt line) told h = record { bytes = bytes; told = told; refused = h }
 fails_at_image files name bytes before after WriteFault told h = absurd h
 fails_at_image files name bytes before after OutOfMemory told h = tt
 
@@ -37,7 +36,6 @@ fails_at_script files name bytes before after (ReadFault Script) told h = absurd
 fails_at_script files name bytes before after (BadImage line why) told h = absurd h
 fails_at_script files name bytes before after (BadScript line) told h = record { bytes = bytes; told = told; refused = h }
 fails_at_script files name bytes before after (TooLarge what size) told h = record { bytes = bytes; told = told; refused = h }
-fails_at_script files name bytes before after (Unbuilt line) told h = absurd h
 fails_at_script files name bytes before after WriteFault told h = absurd h
 fails_at_script files name bytes before after OutOfMemory told h = tt
 

@@ -10,7 +10,7 @@ use Rattle.kdbsim_top.specs.Words.{Command}
 use Rattle.kdbsim_top.specs.Inputs.{HasImage, HasScript, RefusesImage, RefusesScript}
 use Rattle.kdbsim_top.specs.declared.status.File.TheVariants.{Image, Script}
 use Rattle.kdbsim_top.specs.declared.status.Status.{Status}
-use Rattle.kdbsim_top.specs.declared.status.Status.TheVariants.{Done, Usage, ReadFault, BadImage, BadScript, TooLarge, Unbuilt, WriteFault, OutOfMemory}
+use Rattle.kdbsim_top.specs.declared.status.Status.TheVariants.{Done, Usage, ReadFault, BadImage, BadScript, TooLarge, WriteFault, OutOfMemory}
 
 -- what the shelf and the sink tell before and after a call: the shelf's files, which stay, and its count of faults; the
 -- bytes that the sink took, and its count of faults
@@ -58,7 +58,6 @@ Explains o command (ReadFault Script) =
 Explains o command (BadImage line why) = IsRefused o command (BadImage line why)
 Explains o command (BadScript line) = IsRefused o command (BadScript line)
 Explains o command (TooLarge what size) = IsRefused o command (TooLarge what size)
-Explains o command (Unbuilt line) = IsRefused o command (Unbuilt line)
 -- the sink's count rose, and a first part of the transcript is out
 Explains o command WriteFault =
     (ending : Ending) × (text : List ℕ) × IsUniRun o.files command ending text × HasTakenPart o.taken_before text o.taken_after × HasRisen o.sink_before o.sink_after

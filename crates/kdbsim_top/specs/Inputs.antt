@@ -9,9 +9,8 @@ use Rattle.io_edge.specs.Edge.{FileMap, IsTold}
 use Rattle.atom_mach.specs.declared.script.ScriptFault.{ScriptFault}
 use Rattle.atom_mach.specs.declared.script.ScriptFault.TheVariants as script_faults
 use Rattle.atom_mach.specs.Script.{checked_script}
-use Rattle.atom_mach.specs.Unbuilt.{unbuilt_line}
 use Rattle.kdbsim_top.specs.declared.status.Status.{Status}
-use Rattle.kdbsim_top.specs.declared.status.Status.TheVariants.{BadImage, BadScript, TooLarge, Unbuilt, OutOfMemory}
+use Rattle.kdbsim_top.specs.declared.status.Status.TheVariants.{BadImage, BadScript, TooLarge, OutOfMemory}
 
 -- an image file has at most 64 MiB
 abbrev pub image_limit : ℕ
@@ -21,19 +20,18 @@ image_limit = 67108864
 abbrev pub script_limit : ℕ
 script_limit = 1048576
 
--- the refusal of an image by its reading, then by its first line that isn't built
-abbrev pub refusal_of_reading : Result ImageRecord ImageFault → Option ℕ → Option Status
-refusal_of_reading (Err (image_faults.Bad line why)) unbuilt = Some (BadImage line why)
-refusal_of_reading (Err (image_faults.TooLarge what size)) unbuilt = Some (TooLarge what size)
-refusal_of_reading (Err image_faults.OutOfMemory) unbuilt = Some OutOfMemory
-refusal_of_reading (Ok image) (Some line) = Some (Unbuilt line)
-refusal_of_reading (Ok image) None = None
+-- the refusal of an image by its reading
+abbrev pub refusal_of_reading : Result ImageRecord ImageFault → Option Status
+refusal_of_reading (Err (image_faults.Bad line why)) = Some (BadImage line why)
+refusal_of_reading (Err (image_faults.TooLarge what size)) = Some (TooLarge what size)
+refusal_of_reading (Err image_faults.OutOfMemory) = Some OutOfMemory
+refusal_of_reading (Ok image) = None
 
--- The refusal of an image file, if any: its size, its first faulty line, its counts, its first line that isn't built.
+-- The refusal of an image file, if any: its size, its first faulty line, its counts.
 unfoldable pub image_refusal : List ℕ → Option Status
 image_refusal bytes =
     if nat_lt image_limit (length bytes) then Some (TooLarge ImageBytes (length bytes))
-    else refusal_of_reading (image_of bytes) (unbuilt_line bytes)
+    else refusal_of_reading (image_of bytes)
 
 abbrev pub refusal_of_check : Result (Unit {0}) ScriptFault → Option Status
 refusal_of_check (Err (script_faults.Bad line)) = Some (BadScript line)

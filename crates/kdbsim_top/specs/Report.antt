@@ -8,7 +8,7 @@ use Rattle.img_text.specs.declared.fault.Why.TheVariants.{Header, Word, Number, 
 use Rattle.kdbsim_top.specs.declared.status.File.{File}
 use Rattle.kdbsim_top.specs.declared.status.File.TheVariants.{Image, Script}
 use Rattle.kdbsim_top.specs.declared.status.Status.{Status}
-use Rattle.kdbsim_top.specs.declared.status.Status.TheVariants.{Done, Usage, ReadFault, BadImage, BadScript, TooLarge, Unbuilt, WriteFault, OutOfMemory}
+use Rattle.kdbsim_top.specs.declared.status.Status.TheVariants.{Done, Usage, ReadFault, BadImage, BadScript, TooLarge, WriteFault, OutOfMemory}
 
 -- the number with which the program ends
 abbrev pub code_of : Status → ℕ
@@ -20,7 +20,6 @@ code_of (BadScript line) = 6
 code_of (TooLarge what size) = 9
 code_of WriteFault = 11
 code_of OutOfMemory = 12
-code_of (Unbuilt line) = 13
 
 abbrev pub file_name : File → List ℕ
 file_name Image = codes "image"
@@ -57,7 +56,6 @@ words_of_status (ReadFault file) = codes "cannot read " ++ file_name file
 words_of_status (BadImage line why) = codes "bad image, line " ++ (dec_text line ++ (codes ": " ++ why_name why))
 words_of_status (BadScript line) = codes "bad script, line " ++ dec_text line
 words_of_status (TooLarge what size) = codes "too large: " ++ (what_name what ++ (codes " " ++ dec_text size))
-words_of_status (Unbuilt line) = codes "unbuilt, line " ++ dec_text line
 words_of_status WriteFault = codes "cannot write"
 words_of_status OutOfMemory = codes "out of memory"
 

@@ -8,7 +8,7 @@ use Rattle.kdbsim_top.specs.Words.{Command}
 use Rattle.kdbsim_top.specs.Inputs.{image_refusal, script_refusal, HasImage, RefusesImage, RefusesScript}
 use Rattle.kdbsim_top.specs.declared.status.File.TheVariants.{Image, Script}
 use Rattle.kdbsim_top.specs.declared.status.Status.{Status}
-use Rattle.kdbsim_top.specs.declared.status.Status.TheVariants.{Done, ReadFault, BadImage, BadScript, TooLarge, Unbuilt, WriteFault, OutOfMemory}
+use Rattle.kdbsim_top.specs.declared.status.Status.TheVariants.{Done, ReadFault, BadImage, BadScript, TooLarge, WriteFault, OutOfMemory}
 
 -- the bytes are a right image, and this is it
 abbrev pub IsRightImage : List ℕ → ImageRecord → Type 0
@@ -18,7 +18,6 @@ IsRightImage bytes image = (image_refusal bytes ≡ None) × (image_of bytes ≡
 abbrev pub IsImageRefusal : List ℕ → Status → Type 0
 IsImageRefusal bytes (BadImage line why) = image_refusal bytes ≡ Some (BadImage line why)
 IsImageRefusal bytes (TooLarge what size) = image_refusal bytes ≡ Some (TooLarge what size)
-IsImageRefusal bytes (Unbuilt line) = image_refusal bytes ≡ Some (Unbuilt line)
 IsImageRefusal bytes OutOfMemory = Unit {0}
 IsImageRefusal bytes other = ⊥
 
@@ -33,7 +32,6 @@ abbrev pub FailsAtImage : Option FileMap → List ℕ → ℕ → ℕ → Status
 FailsAtImage files name before after (ReadFault Image) = HasRisen before after
 FailsAtImage files name before after (BadImage line why) = RefusesImage files name (BadImage line why)
 FailsAtImage files name before after (TooLarge what size) = RefusesImage files name (TooLarge what size)
-FailsAtImage files name before after (Unbuilt line) = RefusesImage files name (Unbuilt line)
 FailsAtImage files name before after OutOfMemory = Unit {0}
 FailsAtImage files name before after other = ⊥
 

@@ -3,7 +3,7 @@ ghost use Rattle.kdbsim_top.specs.Inputs.{HasImage, HasScript, script_refusal};
 ghost use Rattle.kdbsim_top.specs.Stages.{FailsAtImage, FailsAtScript, IsRightImage, IsImageRefusal, IsScriptRefusal};
 
 use crate::status::{File, Status};
-use atom_mach::{ScriptFault, check_script, unbuilt_line};
+use atom_mach::{ScriptFault, check_script};
 use img_text::{Image, ImageFault, read_image};
 use io_edge::{ReadFail, Shelf};
 use mach_base::What;
@@ -40,10 +40,7 @@ fn image_of(alloc: Global, bytes: &[u8]) -> Result<Image, Status>
         });
     }
     match read_image(alloc, bytes) {
-        Ok(image) => match unbuilt_line(bytes) {
-            Some(line) => Err(Status::Unbuilt { line }),
-            None => Ok(image),
-        },
+        Ok(image) => Ok(image),
         Err(ImageFault::Bad { line, why }) => Err(Status::BadImage { line, why }),
         Err(ImageFault::TooLarge { what, size }) => Err(Status::TooLarge { what, size }),
         Err(ImageFault::OutOfMemory) => Err(Status::OutOfMemory),

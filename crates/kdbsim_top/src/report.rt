@@ -20,7 +20,6 @@ pub fn status_code(status: &Status) -> u8
         Status::TooLarge { .. } => 9,
         Status::WriteFault => 11,
         Status::OutOfMemory => 12,
-        Status::Unbuilt { .. } => 13,
     }
 }
 
@@ -69,7 +68,6 @@ fn push_words(out: &mut Vec<u8>, status: Status) -> Result<(), OutOfMemory>
         ),
         Status::BadScript { line } => push_number(out, "bad script, line ", line),
         Status::TooLarge { what, size } => push_sized(out, what_name(what), size),
-        Status::Unbuilt { line } => push_number(out, "unbuilt, line ", line),
         Status::WriteFault => push(out, "cannot write"),
         Status::OutOfMemory => push(out, "out of memory"),
     }

@@ -23,8 +23,6 @@ pub enum Status {
     BadScript { line: u64 },
     /// A size or a count is over its limit.
     TooLarge { what: What, size: u64 },
-    /// This line of the image asks for what isn't built.
-    Unbuilt { line: u64 },
     /// The sink failed; a first part of the transcript may be out.
     WriteFault,
     /// Memory could not be had; nothing was written.

@@ -7,6 +7,10 @@ use std::test::Fail;
 
 const I0: &str = "kimg 1\ntext 0x1000 16\nw 0x00500513 0x00100073 0x00000073\n";
 
+/// A hart that interrupts itself, returns and meets an `ebreak`.
+const INTERRUPT: &str =
+    "kimg 1\ntext 0x1000 40\nw 0x00500893 0x00001537 0x02050513 0x00000073 0x00600893 0x00000513 0x00000073 0x00100073\nw 0x00700893 0x00000073\n";
+
 const START: &str = "Entering kdb on processor 0 due to Start @ 0x0000000000001000\n";
 
 fn text(alloc: Global, bytes: &[u8]) -> Result<Text, AllocError> {
@@ -113,6 +117,61 @@ fn runs_print_their_transcripts(rt: HostRuntime) -> Result<(), Fail> {
             ],
         ),
         (
+            "kimg 1\ntext 0x1000 24\nw 0x04100513 0x00100893 0x00000073 0x00000893 0x00000073",
+            "go",
+            Ending::AllHalted,
+            [
+                START,
+                "[0]kdb> go\n",
+                "Akdbsim: all halted after 5 steps\n",
+                "",
+            ],
+        ),
+        (
+            INTERRUPT,
+            "go",
+            Ending::ScriptEnd,
+            [
+                START,
+                "[0]kdb> go\nEntering kdb on processor 0 due to Compiled breakpoint @ 0x000000000000101c\n",
+                "[0]kdb> \n",
+                "kdbsim: script end after 10 steps\n",
+            ],
+        ),
+        (
+            "kimg 1\ntext 0x1000 8\nw 0x00003503\n",
+            "go",
+            Ending::ScriptEnd,
+            [
+                START,
+                "[0]kdb> go\nEntering kdb on processor 0 due to Fault unmapped 0x0000000000000000 @ 0x0000000000001000\n",
+                "[0]kdb> \n",
+                "kdbsim: script end after 0 steps\n",
+            ],
+        ),
+        (
+            "kimg 1\ntext 0x1000 8\nsp 0 0x1000\nw 0x00013503\n",
+            "go",
+            Ending::ScriptEnd,
+            [
+                START,
+                "[0]kdb> go\nEntering kdb on processor 0 due to Fault no right 0x0000000000001000 @ 0x0000000000001000\n",
+                "[0]kdb> \n",
+                "kdbsim: script end after 0 steps\n",
+            ],
+        ),
+        (
+            "kimg 1\ntext 0x1000 8\nw 0x00800893 0x00000073\n",
+            "go",
+            Ending::ScriptEnd,
+            [
+                START,
+                "[0]kdb> go\nEntering kdb on processor 0 due to Fault bad service 0x0000000000000008 @ 0x0000000000001004\n",
+                "[0]kdb> \n",
+                "kdbsim: script end after 1 steps\n",
+            ],
+        ),
+        (
             "kimg 1\ntext 0x1000 8\nw 0x0020006f\n",
             "go",
             Ending::ScriptEnd,
@@ -135,22 +194,31 @@ fn runs_print_their_transcripts(rt: HostRuntime) -> Result<(), Fail> {
     Ok(())
 }
 
+/// A load-reserved and a store-conditional with nothing between but sessions.
+#[test]
+fn a_session_keeps_reservations(rt: HostRuntime) -> Result<(), Fail> {
+    let image =
+        "kimg 1\ntext 0x1000 24\nw 0x000025b7 0x1005b52f 0x00100073 0x18a5b62f 0x00100073 0x00000073\ndata 0x2000 8\n";
+    let (status, printed) = answer(rt.alloc(), image, b"go\ngo\nrd\n")?;
+    assert_eq!(rt; status, Status::Done(Ending::ScriptEnd));
+    assert!(rt;
+        has_text(
+            printed.as_bytes(),
+            b"    a1: 0000000000002000\n  a2: 0000000000000000    a3:"
+        )
+    );
+    Ok(())
+}
+
+/// Whether the text has the part.
+fn has_text(text: &[u8], part: &[u8]) -> bool {
+    text.windows(part.len()).any(|window| window == part)
+}
+
 #[test]
 fn refusals_name_their_place(rt: HostRuntime) -> Result<(), Fail> {
     let bad = |line: u64, why: Why| Status::BadImage { line, why };
     for (image, want) in [
-        (
-            "kimg 1\ntext 0x1000 16\nw 0x00500513 0x00100073 0x00000073 0x00000000\n",
-            Status::Unbuilt { line: 3 },
-        ),
-        (
-            "kimg 1\ntext 0x1000 16\nw 0x00500893 0x00100073 0x00000073\n",
-            Status::Unbuilt { line: 3 },
-        ),
-        (
-            "kimg 1\ntext 0x1000 8\ndata 0x2000 8\n",
-            Status::Unbuilt { line: 3 },
-        ),
         ("kimg 2\n", bad(1, Why::Header)),
         ("", bad(1, Why::Header)),
         ("kimg", bad(1, Why::Header)),
@@ -261,7 +329,6 @@ fn statuses_have_their_lines(rt: HostRuntime) -> Result<(), Fail> {
         ),
         (Status::WriteFault, 11, "kdbsim: cannot write"),
         (Status::OutOfMemory, 12, "kdbsim: out of memory"),
-        (Status::Unbuilt { line: 1 }, 13, "kdbsim: unbuilt, line 1"),
     ] {
         assert_eq!(rt; status_code(&status), code);
         let told = status_line(rt.alloc(), &status)?;
