@@ -2,7 +2,8 @@
 use Rattle.std.specs.Prelude.{ℕ, zero, suc, ◌+◌, ◌*◌, ◌/◌, ◌%◌, ◌==◌, ◌&&◌, nat_le, List, [], ◌∷◌, ◌++◌, codes, if◌then◌else◌}
 use Rattle.mach_base.specs.Number.{hex_text}
 use Rattle.mach_base.specs.Texts.{newline, address_text}
-use Rattle.mach_base.specs.Machine.{Memory}
+use Rattle.mach_base.specs.Machine.{Memory, Symbol}
+use Rattle.sym_map.specs.Texts.{name_text}
 use Rattle.kdb_mem.specs.Range.{byte_or_zero, number_at}
 
 -- a word after a blank: its value, in two digits a byte
@@ -50,3 +51,13 @@ byte_digits m addr (suc n) = byte_digits m addr n ++ hex_text 2 (byte_or_zero m 
 -- these bytes on one line
 abbrev pub raw_text : Memory → ℕ → ℕ → List ℕ
 raw_text m addr count = byte_digits m addr count ++ newline
+
+-- a line of one word of 8 bytes: its address, its value, and the symbol that the value is near
+unfoldable pub symbol_line : Memory → List Symbol → ℕ → List ℕ
+symbol_line m symbols addr =
+    address_text addr ++ (word_text m addr 8 ++ (name_text symbols (number_at m addr 8) ++ newline))
+
+-- this many such lines from the address on
+abbrev pub syms_text : Memory → List Symbol → ℕ → ℕ → List ℕ
+syms_text m symbols addr zero = []
+syms_text m symbols addr (suc n) = syms_text m symbols addr n ++ symbol_line m symbols (addr + 8 * n)

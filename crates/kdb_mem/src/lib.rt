@@ -5,16 +5,19 @@
 //!   bytes; the last line of a text may be shorter.
 //! - A range is shown only where all of it is *mapped*: else it is refused with its first unmapped address.
 //!
-//! It stands on `mach_base`, and sees memory through its trait `Peek`; the debugger's commands stand on it.
+//! It stands on `mach_base`, whose trait `Peek` is how it sees memory, and on the symbols (`sym_map`); the debugger's
+//! commands stand on it.
 #![tactic(auto)]
 
 mod change;
 mod lines;
 mod mem_fault;
 mod range;
+mod symbol_lines;
 #[cfg(test)]
 mod tests;
 
 pub use change::modify;
 pub use lines::{raw, show};
 pub use mem_fault::MemFault;
+pub use symbol_lines::syms;

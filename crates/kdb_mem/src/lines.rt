@@ -183,8 +183,9 @@ fn push_words<P: Peek>(
     Ok(())
 }
 
+/// Appends a word, its value in two digits a byte, after a blank.
 #[tactic(auto, unfolding(crate::specs::Shown::word_text))]
-fn push_word<P: Peek>(
+pub fn push_word<P: Peek>(
     mem: &P,
     out: &mut Vec<u8>,
     addr: u64,

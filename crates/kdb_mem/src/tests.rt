@@ -2,6 +2,7 @@ use super::*;
 use mach_base::Peek;
 use std::marker::Model;
 use std::test::Fail;
+use sym_map::Symbols;
 
 /// Memory of 24 bytes from address 0 on.
 #[derive(Drop)]
@@ -120,4 +121,23 @@ fn writes_little_endian(rt: HostRuntime) {
         out.as_slice(),
         b"0x0000000000000008 = 0x0000000000001234\n11341200\n".as_slice()
     );
+}
+
+#[test]
+fn names_what_a_word_is_near(rt: HostRuntime) -> Result<(), Fail> {
+    let mem = sample();
+    let map = b"0000000000000041 T start\n1122334455660000 D face\n";
+    let names = Symbols::read(rt.alloc(), map)?;
+    let mut out = Vec::new(rt.alloc());
+    assert_eq!(rt;
+        syms(&mem, &names, &mut out, 8, 3),
+        Err(MemFault::BadAddr(24))
+    );
+    assert_eq!(rt; out.len(), 0);
+    assert_eq!(rt; syms(&mem, &names, &mut out, 0, 3), Ok(()));
+    assert_eq!(rt;
+        out.as_slice(),
+        b"0x0000000000000000 1122334455667788 (face+0x7788)\n0x0000000000000008 0000000000000041 (start)\n0x0000000000000010 7a41ff801f7f7e20\n".as_slice()
+    );
+    Ok(())
 }
