@@ -6,12 +6,12 @@ use Rattle.kdb_cmd.specs.declared.outcomes.Outcome.TheVariants.{Stay}
 use Rattle.kdb_cmd.specs.declared.spellings.Command.{Command}
 use Rattle.kdb_cmd.specs.declared.spellings.Command.TheVariants.{Show, Mm, Rm, Set, Go}
 use Rattle.kdb_cmd.specs.declared.spellings.Showing.{Showing}
-use Rattle.kdb_cmd.specs.declared.spellings.Showing.TheVariants.{Md, MdCount, Mdr, Rd, Env}
+use Rattle.kdb_cmd.specs.declared.spellings.Showing.TheVariants.{Md, MdCount, Mdr, Mds, Rd, Env}
 use Rattle.kdb_cmd.specs.LineState.{LineState, Answer}
 use Rattle.kdb_cmd.specs.Diagnostics.{word_at, diagnostic_text}
 use Rattle.kdb_cmd.specs.Spellings.{command_of}
 use Rattle.kdb_cmd.specs.Refused.{◌>>=◌}
-use Rattle.kdb_cmd.specs.ShownMemory.{md_text, md_count_text, mdr_text}
+use Rattle.kdb_cmd.specs.ShownMemory.{md_text, md_count_text, mdr_text, mds_text}
 use Rattle.kdb_cmd.specs.Registers.{rd_text, rm_answer}
 use Rattle.kdb_cmd.specs.Variables.{env_text, set_answer}
 use Rattle.kdb_cmd.specs.ChangedMemory.{mm_answer}
@@ -22,6 +22,7 @@ unfoldable pub shown_text : LineState → Showing → List (List ℕ) → Result
 shown_text s (Md width) words = md_text s width words
 shown_text s (MdCount width count) words = md_count_text s width count words
 shown_text s Mdr words = mdr_text s words
+shown_text s Mds words = mds_text s words
 shown_text s Rd words = rd_text s words
 shown_text s Env words = env_text s words
 

@@ -1,8 +1,8 @@
 -- The commands that show memory.
 use Rattle.std.specs.Prelude.{ℕ, ◌*◌, ◌/◌, ◌==◌, List, length, Option, Some, None, Result, Ok, Err, if◌then◌else◌}
-use Rattle.mach_base.specs.Machine.{Memory}
+use Rattle.mach_base.specs.Machine.{Memory, Symbol}
 use Rattle.kdb_mem.specs.Range.{first_unmapped}
-use Rattle.kdb_mem.specs.Shown.{show_text, raw_text}
+use Rattle.kdb_mem.specs.Shown.{show_text, raw_text, syms_text}
 use Rattle.kdb_cmd.specs.declared.diagnostics.Diagnostic.{Diagnostic}
 use Rattle.kdb_cmd.specs.declared.diagnostics.Diagnostic.TheVariants.{WrongArguments, BadAddress}
 use Rattle.kdb_cmd.specs.LineState.{LineState}
@@ -39,3 +39,11 @@ unfoldable pub mdr_text : LineState → List (List ℕ) → Result (List ℕ) Di
 mdr_text s words =
     if length words == 3 then (argument s words 1 >>= λ addr. count_argument s words 2 4096 >>= λ count. bytes_shown s.memory addr count)
     else Err WrongArguments
+
+-- this many words of eight bytes from the address on, with the symbols that they are near
+unfoldable pub near_shown : Memory → List Symbol → ℕ → ℕ → Result (List ℕ) Diagnostic
+near_shown m symbols addr count = unless_unmapped (first_unmapped m addr (count * 8)) (syms_text m symbols addr count)
+
+-- `mds E [E]`: words with the symbols that they are near, a line for each
+unfoldable pub mds_text : LineState → List (List ℕ) → Result (List ℕ) Diagnostic
+mds_text s words = lines_wanted s words >>= λ lines. near_shown s.memory s.symbols lines.addr lines.count

@@ -1,5 +1,5 @@
 -- The commands and their spellings. docs/debugger.md, "Commands", has the table.
-use Rattle.std.specs.Prelude.{ℕ, ◌==◌, ◌≤◌, ◌&&◌, Bool, false, List, [], ◌∷◌, Option, Some, None, Result, Ok, Err, codes, nat_le, if◌then◌else◌}
+use Rattle.std.specs.Prelude.{ℕ, ◌==◌, ◌&&◌, Bool, false, List, [], ◌∷◌, Option, Some, None, Result, Ok, Err, codes, nat_le, if◌then◌else◌}
 use Rattle.std.specs.List.{list_all}
 use Rattle.std.specs.Option.{option_map}
 use Rattle.std.specs.Str.{bytes_eq}
@@ -8,16 +8,16 @@ use Rattle.mach_base.specs.declared.number.NumFault.{NumFault}
 use Rattle.kdb_cmd.specs.declared.spellings.Command.{Command}
 use Rattle.kdb_cmd.specs.declared.spellings.Command.TheVariants.{Show, Mm, Rm, Set, Go}
 use Rattle.kdb_cmd.specs.declared.spellings.Showing.{Showing}
-use Rattle.kdb_cmd.specs.declared.spellings.Showing.TheVariants.{Md, MdCount, Mdr, Rd, Env}
+use Rattle.kdb_cmd.specs.declared.spellings.Showing.TheVariants.{Md, MdCount, Mdr, Mds, Rd, Env}
 use Rattle.kdb_mem.specs.Range.{IsWidth}
 
--- the width that is spelt, if one is, is a width, and the count is at most 256
+-- the width that is spelt, if one is, is a width
 abbrev pub IsShowing : Showing → Type 0
 IsShowing (Md None) = Unit {0}
 IsShowing (Md (Some width)) = IsWidth width
-IsShowing (MdCount width None) = IsWidth width
-IsShowing (MdCount width (Some count)) = IsWidth width × (count ≤ 256)
+IsShowing (MdCount width count) = IsWidth width
 IsShowing Mdr = Unit {0}
+IsShowing Mds = Unit {0}
 IsShowing Rd = Unit {0}
 IsShowing Env = Unit {0}
 
@@ -70,6 +70,7 @@ unfoldable pub md_of : List ℕ → Option Command
 md_of [] = Some (Show (Md None))
 md_of (w ∷ []) =
     if w == 114 then Some (Show Mdr)
+    else if w == 115 then Some (Show Mds)
     else option_map (λ n. Show (Md (Some n))) (width_of w)
 md_of (w ∷ c ∷ digits) = if c == 99 then counted (width_of w) digits else None
 

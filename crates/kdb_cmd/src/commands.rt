@@ -9,7 +9,7 @@ use crate::diagnostics::{push_diagnostic, word_at};
 use crate::leaving::go;
 use crate::refusals::Refusal;
 use crate::registers::{rd, rm};
-use crate::shown_memory::{md, md_count, mdr};
+use crate::shown_memory::{md, md_count, mdr, mds};
 use crate::spellings::{Command, Showing, command_of};
 use crate::variables::{env, set};
 use crate::views::View;
@@ -34,6 +34,7 @@ fn shown_text<P: Peek>(
         Showing::Md(width) => md(alloc, view, width, words),
         Showing::MdCount(width, count) => md_count(alloc, view, width, count, words),
         Showing::Mdr => mdr(alloc, view, words),
+        Showing::Mds => mds(alloc, view, words),
         Showing::Rd => rd(alloc, view, words),
         Showing::Env => env(alloc, view, words),
     }

