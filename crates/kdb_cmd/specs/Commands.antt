@@ -1,0 +1,57 @@
+-- What a line of words does, by cases, one for each command.
+use Rattle.std.specs.Prelude.{ℕ, ◌==◌, List, [], length, Option, Some, None, Result, Ok, Err, if◌then◌else◌}
+use Rattle.kdb_cmd.specs.declared.diagnostics.Diagnostic.{Diagnostic}
+use Rattle.kdb_cmd.specs.declared.diagnostics.Diagnostic.TheVariants.{UnknownCommand}
+use Rattle.kdb_cmd.specs.declared.outcomes.Outcome.TheVariants.{Stay}
+use Rattle.kdb_cmd.specs.declared.spellings.Command.{Command}
+use Rattle.kdb_cmd.specs.declared.spellings.Command.TheVariants.{Show, Mm, Rm, Set, Go}
+use Rattle.kdb_cmd.specs.declared.spellings.Showing.{Showing}
+use Rattle.kdb_cmd.specs.declared.spellings.Showing.TheVariants.{Md, MdCount, Mdr, Mds, Rd, Env}
+use Rattle.kdb_cmd.specs.LineState.{LineState, Answer}
+use Rattle.kdb_cmd.specs.Diagnostics.{word_at, diagnostic_text}
+use Rattle.kdb_cmd.specs.Spellings.{command_of}
+use Rattle.kdb_cmd.specs.Refused.{◌>>=◌}
+use Rattle.kdb_cmd.specs.ShownMemory.{md_text, md_count_text, mdr_text, mds_text}
+use Rattle.kdb_cmd.specs.Registers.{rd_text, rm_answer}
+use Rattle.kdb_cmd.specs.Variables.{env_text, set_answer}
+use Rattle.kdb_cmd.specs.ChangedMemory.{mm_answer}
+use Rattle.kdb_cmd.specs.Leaving.{go_answer}
+
+-- what a command shows
+unfoldable pub shown_text : LineState → Showing → List (List ℕ) → Result (List ℕ) Diagnostic
+shown_text s (Md width) words = md_text s width words
+shown_text s (MdCount width count) words = md_count_text s width count words
+shown_text s Mdr words = mdr_text s words
+shown_text s Mds words = mds_text s words
+shown_text s Rd words = rd_text s words
+shown_text s Env words = env_text s words
+
+-- the answer that shows a text and changes nothing
+abbrev pub showing : LineState → List ℕ → Answer
+showing s text = record { output = text; state = s; outcome = Stay }
+
+-- what a command with its words does, where the session was entered on this processor
+unfoldable pub command_answer : ℕ → Command → LineState → List (List ℕ) → Result Answer Diagnostic
+command_answer entry (Show what) s words = shown_text s what words >>= λ text. Ok (showing s text)
+command_answer entry (Mm width) s words = mm_answer s width words
+command_answer entry Rm s words = rm_answer s words
+command_answer entry Set s words = set_answer s words
+command_answer entry Go s words = go_answer entry s words
+
+abbrev pub answer_if_known : ℕ → Option Command → LineState → List (List ℕ) → Result Answer Diagnostic
+answer_if_known entry None s words = Err UnknownCommand
+answer_if_known entry (Some command) s words = command_answer entry command s words
+
+-- what a line of these words does: the first names the command, and a line without words does nothing
+unfoldable pub words_meaning : ℕ → List (List ℕ) → LineState → Result Answer Diagnostic
+words_meaning entry words s =
+    if length words == 0 then Ok (showing s []) else answer_if_known entry (command_of (word_at words 0)) s words
+
+-- the answer, or the line of the diagnostic, which changes nothing
+abbrev pub answer_or_line : List (List ℕ) → LineState → Result Answer Diagnostic → Answer
+answer_or_line words s (Ok answer) = answer
+answer_or_line words s (Err diagnostic) = showing s (diagnostic_text words diagnostic)
+
+-- what a line of these words prints and does
+unfoldable pub words_answer : ℕ → List (List ℕ) → LineState → Answer
+words_answer entry words s = answer_or_line words s (words_meaning entry words s)

@@ -1,0 +1,15 @@
+pub mod Diagnostics
+pub mod Filtered
+pub mod Spellings
+pub mod LineState
+pub mod State
+pub mod Scope
+pub mod Refused
+pub mod Arguments
+pub mod ShownMemory
+pub mod ChangedMemory
+pub mod Registers
+pub mod Variables
+pub mod Leaving
+pub mod Commands
+pub mod Line

@@ -1,0 +1,33 @@
+//! One line of the debugger: what it prints, what it changes, and whether it leaves the session.
+//!
+//! - A *line* is cut into *words*, of which the first names the *command* and the others are its *arguments*; an
+//!   argument is mostly an expression. Behind a pipe stands a filter, through which everything goes that is printed.
+//! - A line is *refused* by a *diagnostic*, the first that holds, which is printed and changes nothing.
+//! - The *state* of a line is what it sees and may change: the harts' contexts, memory, breakpoints, variables, macros,
+//!   symbols, and the number of the *current* processor, which the commands are about.
+//! - An *answer* is what a line prints, the state that it leaves, and the *outcome*: whether the session goes on.
+//!
+//! It joins the debugger's crates over any memory that is a `Peek`; the machine's sessions stand on it.
+#![tactic(auto)]
+
+mod arguments;
+mod changed_memory;
+mod commands;
+mod diagnostics;
+mod filtered;
+mod leaving;
+mod lines;
+mod outcomes;
+mod refusals;
+mod registers;
+mod session;
+mod shown_memory;
+mod spellings;
+mod variables;
+mod views;
+
+pub use diagnostics::Diagnostic;
+pub use lines::run_line;
+pub use outcomes::{Outcome, Said};
+pub use session::Kdb;
+pub use spellings::{Command, Showing, command_of};

@@ -1,0 +1,15 @@
+use Rattle.std.proofs.Common.{◌≡◌, ◌+◌, ◌≤◌, length}
+use Rattle.mach_base.specs.Lines.{lines_of}
+use Rattle.sym_map.specs.Reading.{read_lines}
+use Rattle.sym_map.proofs.Lines.{prepended}
+use Rattle.sym_map.proofs.reading.read_lines.Given as goal
+
+-- the symbols so far, and those of the lines that are left
+abbrev pub invariant-loop-line : goal.invariant-loop-line
+invariant-loop-line l = record {
+  told : read_lines 1 (lines_of l.text) ≡ prepended l.symbols.items (read_lines l.number (lines_of l.left));
+  in_range : l.number + length l.left ≤ length l.text + 1;
+}
+
+abbrev pub decreases-loop-line : goal.decreases-loop-line
+decreases-loop-line l = length l.left
