@@ -1,15 +1,13 @@
 -- The greatest address below another, and the symbol there.
-use Rattle.std.proofs.Common.{◌≡◌, ℕ, suc, zero, ◌+◌, ◌-◌, ◌<◌, ◌≤◌, ◌==◌, nat_lt, nat_le, max, Bool, true, false, cond, List, [], ◌∷◌, length, get_or, Option, Some, None, IsSome, refl, sym, ap, ◌∙◌, arith}
-use Rattle.std.specs.Option.{option_map}
+use Rattle.std.proofs.Common.{◌≡◌, ℕ, suc, ◌+◌, ◌-◌, ◌<◌, ◌≤◌, ◌==◌, nat_lt, nat_le, max, Bool, true, false, cond, List, [], ◌∷◌, length, get_or, Option, Some, None, IsSome, refl, sym, ap, ◌∙◌, arith}
 use Rattle.std.specs.List.{find, position_from}
 use Rattle.std.proofs.lemmas.Bool.{eqb-true, eq-eqb, leb-true}
 use Rattle.std.proofs.lemmas.Bool.Decides.{nat_tests}
-use Rattle.std.proofs.Math.Nat.{max-eq_left}
 use Rattle.mach_base.specs.Machine.{Symbol}
 use Rattle.std.specs.BTreeMap.{get}
 use Rattle.std.specs.Ordering.{nat_cmp}
 use Rattle.sym_map.specs.Index.{ByAddr, IndexesAddrs}
-use Rattle.sym_map.specs.Lookups.{is_at, floor_of, greater, from_floor, near_of}
+use Rattle.sym_map.specs.Lookups.{is_at, floor_of, greater, near_of, AreBelow}
 
 -- where a symbol stands first, from this number on
 abbrev first_at : ℕ → ℕ → List Symbol → Option ℕ
@@ -123,3 +121,29 @@ found_by_index index symbols at number d told here =
     let f = found_at at 0 number symbols d (sym (told at) ∙ here) in
     let whole : number - 0 ≡ number = omega arith in
     (omega (arith, f.1), f.2 ∙ ap (λ n. Some (get_or symbols n d)) whole)
+
+-- where the floor is so far below the address, so is each symbol that isn't above it
+pub floor_of-below : (symbols : List Symbol) (addr top distance : ℕ) → greater 0 (floor_of symbols addr) ≤ top → top + distance ≤ addr → AreBelow addr distance symbols
+floor_of-below [] addr top distance h far = tt
+floor_of-below (s ∷ ss) addr top distance h far =
+    by (nat_le s.addr addr) refl (floor_of ss addr) h (λ g. floor_of-below ss addr top distance g far)
+  where
+    by : (t : Bool) → nat_le s.addr addr ≡ t → (o : Option ℕ) → greater 0 (cond t (Some (greater s.addr o)) o) ≤ top → (greater 0 o ≤ top → AreBelow addr distance ss) → (s.addr ≤ addr → s.addr + distance ≤ addr) × AreBelow addr distance ss
+    by true low None g rest = (λ le. omega (arith, g), rest (omega arith))
+    by true low (Some b) g rest = (λ le. omega (arith, g), rest (omega (arith, g)))
+    by false high o g rest = (λ le. absurd (above le), rest g)
+      where
+        above : s.addr ≤ addr → ⊥
+        above le = let no : nat_le s.addr addr ≡ true = grind (arith, nat_tests) in cc
+
+-- without a floor each symbol is above the address
+pub floor_of-above : (symbols : List Symbol) (addr distance : ℕ) → floor_of symbols addr ≡ None → AreBelow addr distance symbols
+floor_of-above [] addr distance h = tt
+floor_of-above (s ∷ ss) addr distance h = by (nat_le s.addr addr) refl h (λ g. floor_of-above ss addr distance g)
+  where
+    by : (t : Bool) → nat_le s.addr addr ≡ t → cond t (Some (greater s.addr (floor_of ss addr))) (floor_of ss addr) ≡ None → (floor_of ss addr ≡ None → AreBelow addr distance ss) → (s.addr ≤ addr → s.addr + distance ≤ addr) × AreBelow addr distance ss
+    by true low h rest = absurd (cc)
+    by false high h rest = (λ le. absurd (above le), rest h)
+      where
+        above : s.addr ≤ addr → ⊥
+        above le = let no : nat_le s.addr addr ≡ true = grind (arith, nat_tests) in cc

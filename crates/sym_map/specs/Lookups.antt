@@ -1,6 +1,7 @@
 -- Symbols, in the order of their file: the address of a name, and the symbol that an address is near.
-use Rattle.std.specs.Prelude.{ℕ, ◌-◌, ◌==◌, Bool, List, [], ◌∷◌, max, Option, Some, None, find, nat_lt, nat_le, if◌then◌else◌}
+use Rattle.std.specs.Prelude.{ℕ, ◌+◌, ◌-◌, ◌≤◌, ◌==◌, Bool, List, [], ◌∷◌, max, Option, Some, None, find, nat_lt, nat_le, if◌then◌else◌}
 use Rattle.std.specs.Option.{option_map}
+use Rattle.std.specs.List.{AllByRecursion}
 use Rattle.std.specs.Str.{bytes_eq}
 use Rattle.mach_base.specs.Machine.{Symbol}
 
@@ -36,3 +37,7 @@ from_floor symbols addr (Some floor) =
 -- the greatest that is not above it the first.
 unfoldable pub near_of : List Symbol → ℕ → Option (List ℕ × ℕ)
 near_of symbols addr = from_floor symbols addr (floor_of symbols addr)
+
+-- each symbol that isn't above the address is at least so far below it
+abbrev pub AreBelow : ℕ → ℕ → List Symbol → Type 0
+AreBelow addr distance symbols = AllByRecursion (λ s. s.addr ≤ addr → s.addr + distance ≤ addr) symbols

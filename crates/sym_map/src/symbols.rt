@@ -1,6 +1,6 @@
-ghost use Rattle.std.specs.Prelude.{◌≡◌, ◌<◌, [], IfSome};
+ghost use Rattle.std.specs.Prelude.{◌≡◌, ◌<◌, [], IfSome, MatchOption};
 ghost use Rattle.std.specs.Option.{option_map};
-ghost use Rattle.sym_map.specs.Lookups.{addr_of, near_of};
+ghost use Rattle.sym_map.specs.Lookups.{addr_of, near_of, AreBelow};
 ghost use Rattle.sym_map.specs.Reading.{Gives, symbols_of};
 
 use crate::MapFault;
@@ -82,6 +82,7 @@ impl Symbols {
     #[tactic(auto, unfolding(crate::specs::Lookups::near_of))]
     pub fn near(&self, addr: u64) -> Option<Near<'_>>
         ensures value { option_map (λ near. (near.name.now, near.offset)) result ≡ near_of self.now addr }
+        ensures nearest { MatchOption result (AreBelow addr 1048576 self.now) (λ near. AreBelow addr near.offset self.now) }
         ensures offset { IfSome result (λ near. near.offset < 1048576) }
     {
         let Some((at, number)) = floor(&self.by_addr, addr) else {

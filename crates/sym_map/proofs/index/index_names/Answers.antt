@@ -1,4 +1,4 @@
-use Rattle.std.proofs.Common.{arith, ◌-◌, refl, ap, ◌∙◌, sym}
+use Rattle.std.proofs.Common.{arith, ◌-◌, ap, ◌∙◌}
 use Rattle.mach_base.specs.Machine.{Symbol}
 use Rattle.sym_map.proofs.Indexed.{names_more}
 use Rattle.sym_map.proofs.index.index_names.Goals as goal

@@ -1,7 +1,7 @@
 use Rattle.std.proofs.Common.{arith, sym, ◌∙◌}
 use Rattle.std.proofs.lemmas.Result.{err_from_is_err_and}
 use Rattle.mach_base.specs.Lines.{lines_of}
-use Rattle.sym_map.proofs.Lines.{lines_begin, lines_more, lines_bad, lines_end}
+use Rattle.sym_map.proofs.Lines.{lines_more, lines_bad, lines_end}
 use Rattle.sym_map.proofs.reading.read_lines.Goals as goal
 
 pub returns-in_err-found : goal.returns-in_err-found

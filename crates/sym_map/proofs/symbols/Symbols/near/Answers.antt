@@ -1,7 +1,6 @@
 use Rattle.std.proofs.Common.{arith, List, [], ℕ, ◌-◌, Some, sym, ap, ◌∙◌}
 use Rattle.mach_base.specs.Machine.{Symbol}
-use Rattle.sym_map.proofs.Floors.{floor_of-index, floor_of-no_index, found_by_index, near_of-none, near_of-far, near_of-found}
-use Rattle.sym_map.specs.Lookups.{near_of}
+use Rattle.sym_map.proofs.Floors.{floor_of-index, floor_of-no_index, floor_of-below, floor_of-above, found_by_index, near_of-none, near_of-far, near_of-found}
 use Rattle.sym_map.proofs.symbols.Symbols.near.Goals as goal
 
 pub returns-in_default-clause-value : goal.returns-in_default-clause-value
@@ -28,3 +27,22 @@ returns-clause-value c =
     let found = (found_by_index c.self.inside.by_addr symbols at c.in-Some.number s c.self.invariant.addrs c.in-Some.ensures.found).1 ∙ ap (λ (x : Symbol). Some x) (sym c.index-symbol.ensures) in
     let named = c.as_slice.ensures.value ∙ ap (λ (x : Symbol). x.name) c.symbol.view_is in
     rw (← c.self.view_is) (ap (λ (n : List ℕ). Some (n, c.args.addr - at)) named ∙ sym (near_of-found symbols c.args.addr at s floor c.if-offset-ge-OFFSET_LIMIT.false found))
+
+pub returns-in_default-clause-nearest : goal.returns-in_default-clause-nearest
+returns-in_default-clause-nearest c =
+    let symbols = c.self.inside.symbols.items in
+    rw (← c.self.view_is) (floor_of-above symbols c.args.addr 1048576 (floor_of-no_index c.self.inside.by_addr symbols c.args.addr c.self.invariant.addrs c.in_default.ensures.found))
+
+pub returns-then-offset-ge-OFFSET_LIMIT-clause-nearest : goal.returns-then-offset-ge-OFFSET_LIMIT-clause-nearest
+returns-then-offset-ge-OFFSET_LIMIT-clause-nearest c =
+    let symbols = c.self.inside.symbols.items in
+    let at = c.in-Some.at in
+    let floor = floor_of-index c.self.inside.by_addr symbols c.args.addr at c.in-Some.number c.self.invariant.addrs c.in-Some.ensures.found c.in-Some.ensures.below c.in-Some.ensures.greatest in
+    rw (← c.self.view_is) (floor_of-below symbols c.args.addr at 1048576 (rw floor (omega arith)) (omega (arith, c.if-offset-ge-OFFSET_LIMIT.true)))
+
+pub returns-clause-nearest : goal.returns-clause-nearest
+returns-clause-nearest c =
+    let symbols = c.self.inside.symbols.items in
+    let at = c.in-Some.at in
+    let floor = floor_of-index c.self.inside.by_addr symbols c.args.addr at c.in-Some.number c.self.invariant.addrs c.in-Some.ensures.found c.in-Some.ensures.below c.in-Some.ensures.greatest in
+    rw (← c.self.view_is) (floor_of-below symbols c.args.addr at (c.args.addr - at) (rw floor (omega arith)) (omega (arith, c.in-Some.ensures.below)))
