@@ -8,8 +8,8 @@ use Rattle.mach_base.specs.declared.event.Ending.{Ending}
 use Rattle.mach_base.specs.declared.event.Ending.TheVariants.{AllHalted, StepLimit}
 use Rattle.atom_mach.specs.declared.step.Mode.{Mode}
 use Rattle.atom_mach.specs.declared.step.Mode.TheVariants.{Free, Hold, Pass, Back, Leave, Over}
-use Rattle.atom_mach.specs.declared.step.Outcome.{Outcome}
-use Rattle.atom_mach.specs.declared.step.Outcome.TheVariants.{Stay, Go, Step as StepOut}
+use Rattle.kdb_cmd.specs.declared.outcomes.Outcome.{Outcome}
+use Rattle.kdb_cmd.specs.declared.outcomes.Outcome.TheVariants.{Stay, Go, Step as StepOut}
 use Rattle.atom_mach.specs.declared.step.AStep.TheVariants.{Instr, Intr, Session, Off}
 use Rattle.atom_mach.specs.State.{State}
 use Rattle.atom_mach.specs.Step.{Done, does, is_hart, may_run, may_pass, may_take, runs, opening, opened_for, session, session_lines, after_line, line_said, line_text, with_read, entered, mode_of_go, mode_after, owes, executed, is_free, is_true_ending, ended, stops_again, trap}
@@ -109,8 +109,9 @@ lines_work : (m : Hart) (unread : List (List ℕ)) (s : Machine) → s.unread �
 unfolding session_lines line_said
 lines_work m [] s e = rw e (omega arith)
 lines_work m (line ∷ rest) s e =
-    after_le (line_said line (with_read s rest)).outcome (line_text line (with_read s rest)) (with_read s rest) m (session_lines m rest (with_read s rest)) ((s.limit - s.steps) + 3 * length (line ∷ rest))
-    (let more = lines_work m rest (with_read s rest) refl in omega arith)
+    let said = line_said m 0 line (with_read s rest) in
+    after_le said.outcome (line_text m 0 line (with_read s rest)) said.machine m (session_lines m rest said.machine) ((s.limit - s.steps) + 3 * length (line ∷ rest))
+    (let more = lines_work m rest said.machine refl in omega arith)
     (omega arith)
 
 heavy : (mode : Mode) → ending_of mode ≡ None → 0 < weight mode

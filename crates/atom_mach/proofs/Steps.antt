@@ -12,8 +12,9 @@ use Rattle.atom_mach.specs.declared.step.Mode.{Mode}
 use Rattle.atom_mach.specs.declared.step.Mode.TheVariants.{Free, Hold, Pass, Back, Leave, Over}
 use Rattle.atom_mach.specs.declared.step.AStep.TheVariants.{Instr, Off}
 use Rattle.hart_step.specs.Faults.{word_fault}
+use Rattle.kdb_bp.specs.Breaks.{first_enabled}
 use Rattle.atom_mach.specs.State.{State, context_at}
-use Rattle.atom_mach.specs.Step.{Done, does, ended, is_free, holds_at_end, all_halted, is_hart, may_run, may_pass, executed, mode_after, trap, trap_in, fault_of, fetched_at, fault_of_fetched, trap_of_fetched, breakpoint_or, enabled_place, runs, console_text, ebreak_word}
+use Rattle.atom_mach.specs.Step.{Done, does, ended, is_free, holds_at_end, all_halted, is_hart, may_run, may_pass, executed, mode_after, trap, trap_in, fault_of, fetched_at, fault_of_fetched, trap_of_fetched, breakpoint_or, runs, console_text, ebreak_word}
 use Rattle.trap_ipi.specs.Interrupt.{is_takeable}
 use Rattle.mach_base.specs.Texts.{has_bit}
 use Rattle.atom_mach.specs.Modes.{is_alone}
@@ -109,7 +110,7 @@ is_none-None (Some x) e = absurd (false≢true e)
 pub fault_of-trap : (s : Machine) (h : ℕ) → s.opened ≡ true → (context_at s h).halted ≡ false → trap s h ≡ None → fault_of s h ≡ None
 unfolding trap fault_of
 fault_of-trap s h opened awake e =
-    none_fault (context_at s h) (length s.harts) s.memory (fetched_at s h) (none_behind (enabled_place (context_at s h).pc 0 s.places) _ (behind s.opened (h == 0) (context_at s h).halted _ opened awake e))
+    none_fault (context_at s h) (length s.harts) s.memory (fetched_at s h) (none_behind (first_enabled (context_at s h).pc s.places) _ (behind s.opened (h == 0) (context_at s h).halted _ opened awake e))
   where
     behind : (a b c : Bool) (r : Option Reason) → a ≡ true → c ≡ false → cond (not a && b) (Some Start) (cond c None r) ≡ None → r ≡ None
     behind true b false r p q e = e

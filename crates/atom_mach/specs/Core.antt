@@ -1,21 +1,20 @@
 -- What the fields of the machine with one hart stand for.
-use Rattle.std.specs.Prelude.{[], false, replicate, drop, None}
+use Rattle.std.specs.Prelude.{drop}
 use Rattle.mach_base.specs.Machine.{Machine}
-use Rattle.atom_mach.specs.State.{State, first_variables}
+use Rattle.atom_mach.specs.State.{State}
 use Rattle.atom_mach.specs.declared.one_hart.Core.{Core}
 
--- hart 0 is current, and breakpoints, macros and symbols there are none
 abbrev pub machine_of : Core → Machine
 machine_of c = record {
   harts = c.contexts.items;
   memory = c.map;
-  places = replicate 16 None;
-  variables = first_variables;
-  macros = [];
-  defining = false;
-  symbols = [];
+  places = c.kdb.breaks;
+  variables = c.kdb.env;
+  macros = c.kdb.macros.macros;
+  defining = c.kdb.macros.defining;
+  symbols = c.names;
   limit = c.limit;
-  current = 0;
+  current = c.kdb.current;
   unread = drop c.read c.lines.items;
   lines_read = c.read;
   steps = c.steps;

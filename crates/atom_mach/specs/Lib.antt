@@ -1,6 +1,4 @@
 pub mod Script
-pub mod Line
-pub mod Request
 pub mod Texts
 pub mod State
 pub mod Step

@@ -1,8 +1,9 @@
 -- The state of the atomic machine: the machine record and the mode.
-use Rattle.std.specs.Prelude.{ℕ, false, List, [], ◌∷◌, codes, replicate, None, slice_set}
+use Rattle.std.specs.Prelude.{ℕ, false, List, [], replicate, None, slice_set}
 use Rattle.mach_base.specs.Machine.{Context, Symbol, Machine, memory_of}
 use Rattle.hart_ctx.specs.Context.{context_of}
 use Rattle.img_text.specs.Image.{ImageRecord}
+use Rattle.kdb_env.specs.Variables.{defaults}
 use Rattle.img_text.specs.Boot.{first_contexts}
 use Rattle.mach_base.specs.Lines.{lines_of}
 use Rattle.atom_mach.specs.declared.step.Mode.{Mode}
@@ -20,13 +21,7 @@ context_at s h = context_of s.harts h
 abbrev pub with_context : Machine → ℕ → Context → Machine
 with_context s h c = record s { harts = slice_set s.harts h c }
 
--- the variables at the start, in their order
-abbrev pub first_variables : List (List ℕ × List ℕ)
-first_variables =
-    (codes "PROMPT", codes "[%d]kdb> ") ∷ (codes "RADIX", codes "16") ∷ (codes "MDCOUNT", codes "8")
-    ∷ (codes "BYTESPERWORD", codes "8") ∷ (codes "LINES", codes "24") ∷ []
-
--- The state at the start: the image's memory, a context for each hart, no breakpoint, the first variables, no macro,
+-- The state at the start: the image's memory, a context for each hart, no breakpoint, the variables' defaults, no macro,
 -- hart 0 current, the whole script unread, no step taken, no session opened; the machine is free.
 unfoldable pub start_state : ImageRecord → List Symbol → List ℕ → ℕ → ℕ → State
 start_state image symbols script harts limit = record {
@@ -34,7 +29,7 @@ start_state image symbols script harts limit = record {
     harts = first_contexts image harts;
     memory = memory_of image.parts;
     places = replicate 16 None;
-    variables = first_variables;
+    variables = defaults;
     macros = [];
     defining = false;
     symbols = symbols;

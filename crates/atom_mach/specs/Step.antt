@@ -1,10 +1,8 @@
 -- The steps of the atomic machine: where each is allowed, what it does and what it prints.
-use Rattle.std.specs.Prelude.{ℕ, ◌+◌, ◌^◌, ◌==◌, ◌&&◌, ◌||◌, Bool, true, false, not, List, [], ◌∷◌, ◌++◌, length, codes, Option, Some, None, Result, Ok, Err, nat_lt, nat_le, is_none, option_map, unwrap_or, if◌then◌else◌}
-use Rattle.std.specs.Cmp.Lexicographic.{pointwise}
-use Rattle.mach_base.specs.Number.{dec_text}
+use Rattle.std.specs.Prelude.{ℕ, ◌+◌, ◌-◌, ◌^◌, ◌==◌, ◌&&◌, ◌||◌, Bool, true, false, not, List, [], ◌∷◌, ◌++◌, length, codes, Option, Some, None, Result, Ok, Err, nat_lt, nat_le, is_none, option_map, unwrap_or, if◌then◌else◌}
 use Rattle.std.specs.Option.{option_to_list}
 use Rattle.mach_base.specs.Texts.{newline, has_bit}
-use Rattle.mach_base.specs.Machine.{Context, Memory, Place, Machine}
+use Rattle.mach_base.specs.Machine.{Context, Memory, Machine}
 use Rattle.mach_base.specs.declared.event.Hart.{Hart}
 use Rattle.mach_base.specs.declared.event.Fault.{Fault}
 use Rattle.mach_base.specs.declared.event.Reason.{Reason}
@@ -16,14 +14,16 @@ use Rattle.atom_mach.specs.declared.step.Mode.{Mode}
 use Rattle.atom_mach.specs.declared.step.Mode.TheVariants.{Free, Hold, Pass, Back, Leave, Over}
 use Rattle.atom_mach.specs.declared.step.AStep.{AStep}
 use Rattle.atom_mach.specs.declared.step.AStep.TheVariants.{Instr, Intr, Session, Enter, Line, End, Off}
-use Rattle.atom_mach.specs.declared.step.Outcome.{Outcome}
-use Rattle.atom_mach.specs.declared.step.Outcome.TheVariants.{Stay, Go, Step as StepOut}
+use Rattle.kdb_cmd.specs.declared.outcomes.Outcome.{Outcome}
+use Rattle.kdb_cmd.specs.declared.outcomes.Outcome.TheVariants.{Stay, Go, Step as StepOut}
+use Rattle.kdb_cmd.specs.LineState.{LineState, Answer}
+use Rattle.kdb_cmd.specs.Line as debugger
+use Rattle.kdb_bp.specs.Breaks.{first_enabled}
+use Rattle.kdb_env.specs.Variables.{value_of}
 use Rattle.hart_step.specs.Faults.{word_fault}
 use Rattle.hart_step.specs.Execution.{contexts_after, memory_after, byte_sent}
 use Rattle.trap_ipi.specs.Interrupt.{is_takeable, after_interrupt}
-use Rattle.atom_mach.specs.Line.{Request, Nothing, Leave as LeaveRequest, ShowRegisters, Unknown, request_of}
-use Rattle.kdb_reg.specs.Registers.{registers_text}
-use Rattle.atom_mach.specs.Texts.{banner_text, with_number, unknown_command_text}
+use Rattle.atom_mach.specs.Texts.{banner_text, with_number}
 use Rattle.atom_mach.specs.State.{State, context_at, with_context}
 
 -- Instructions and traps.
@@ -72,12 +72,6 @@ counted s = record s { steps = s.steps + 1 }
 abbrev pub interrupted : Machine → ℕ → Machine
 interrupted s h = counted (with_context s h (after_interrupt (context_at s h)))
 
--- the first place that is enabled at this pc, where the first of these is place i
-abbrev pub enabled_place : ℕ → ℕ → List (Option Place) → Option ℕ
-enabled_place pc i [] = None
-enabled_place pc i (None ∷ places) = enabled_place pc (i + 1) places
-enabled_place pc i (Some p ∷ places) = if p.enabled && (p.addr == pc) then Some i else enabled_place pc (i + 1) places
-
 -- the word `ebreak`
 abbrev pub ebreak_word : ℕ
 ebreak_word = 0x0010_0073
@@ -103,7 +97,7 @@ unfoldable pub trap : Machine → ℕ → Option Reason
 trap s h =
     if not s.opened && (h == 0) then Some Start
     else (if (context_at s h).halted then None
-    else breakpoint_or (enabled_place (context_at s h).pc 0 s.places) (trap_of_fetched (context_at s h) (length s.harts) s.memory (fetched_at s h)))
+    else breakpoint_or (first_enabled (context_at s h).pc s.places) (trap_of_fetched (context_at s h) (length s.harts) s.memory (fetched_at s h)))
 
 -- Modes.
 
@@ -156,18 +150,35 @@ opening (Pass k was_late again) s m late =
     if (k.0 == m) && (was_late == late) then option_map FaultReason (fault_of s m) else None
 opening mode s m late = None
 
--- the value of the variable of this name
-abbrev pub variable_value : List ℕ → List (List ℕ × List ℕ) → Option (List ℕ)
-variable_value name [] = None
-variable_value name (v ∷ vs) = if pointwise ◌==◌ v.0 name then Some v.1 else variable_value name vs
-
 -- the prompt: the variable PROMPT with its first %d replaced by the current processor
 abbrev pub prompt_text : Machine → List ℕ
-prompt_text s = with_number s.current (unwrap_or (variable_value (codes "PROMPT") s.variables) [])
+prompt_text s = with_number s.current (unwrap_or (value_of s.variables (codes "PROMPT")) [])
 
--- the prompt at the start, on processor 0
-abbrev pub first_prompt : List ℕ
-first_prompt = codes "[" ++ (dec_text 0 ++ codes "]kdb> ")
+-- what a line sees of the machine
+abbrev pub line_state : Machine → LineState
+line_state s = record {
+  harts = s.harts;
+  memory = s.memory;
+  places = s.places;
+  variables = s.variables;
+  macros = s.macros;
+  defining = s.defining;
+  symbols = s.symbols;
+  current = s.current;
+}
+
+-- the machine with what a line leaves
+abbrev pub with_line_state : Machine → LineState → Machine
+with_line_state s t = record s {
+  harts = t.harts;
+  memory = t.memory;
+  places = t.places;
+  variables = t.variables;
+  macros = t.macros;
+  defining = t.defining;
+  symbols = t.symbols;
+  current = t.current;
+}
 
 -- what a line prints behind its echo, what it leaves, and whether the session goes on
 pub record Said : Type 0 where
@@ -175,35 +186,24 @@ pub record Said : Type 0 where
   pub machine : Machine
   pub outcome : Outcome
 
--- what each request prints
-abbrev pub output_of : Request → Context → List ℕ
-output_of Nothing c = []
-output_of LeaveRequest c = []
-output_of ShowRegisters c = registers_text c
-output_of (Unknown word) c = unknown_command_text word
+abbrev pub said_by : Machine → Answer → Said
+said_by s answer = record { output = answer.output; machine = with_line_state s answer.state; outcome = answer.outcome }
 
--- whether the session goes on after it
-abbrev pub outcome_of : Request → Outcome
-outcome_of Nothing = Stay
-outcome_of LeaveRequest = Go
-outcome_of ShowRegisters = Stay
-outcome_of (Unknown word) = Stay
+-- the processors that are in a session with these late harts: all the others
+abbrev pub gathered : Machine → ℕ → ℕ
+gathered s late = 2 ^ length s.harts - 1 - late
 
 -- the machine once its next line is read
 abbrev pub with_read : Machine → List (List ℕ) → Machine
 with_read s rest = record s { unread = rest; lines_read = s.lines_read + 1 }
 
--- What one line does.
-unfoldable pub line_said : List ℕ → Machine → Said
-line_said line s = record {
-  output = output_of (request_of line) (context_at s s.current);
-  machine = s;
-  outcome = outcome_of (request_of line);
-}
+-- What one line of a session of m does, with these late harts.
+unfoldable pub line_said : Hart → ℕ → List ℕ → Machine → Said
+line_said m late line s = said_by s (debugger.line_said (gathered s late) m.0 line (line_state s))
 
 -- the prompt, the line and what it prints
-abbrev pub line_text : List ℕ → Machine → List ℕ
-line_text line s = prompt_text s ++ (line ++ (newline ++ (line_said line s).output))
+abbrev pub line_text : Hart → ℕ → List ℕ → Machine → List ℕ
+line_text m late line s = prompt_text s ++ (line ++ (newline ++ (line_said m late line s).output))
 
 abbrev pub stops_again : Option Reason → Bool
 stops_again (Some (Breakpoint i)) = true
@@ -228,8 +228,8 @@ after_line StepOut text s m rest = record { text = text; next = record { machine
 unfoldable pub session_lines : Hart → List (List ℕ) → Machine → Done
 session_lines m [] s = record { text = prompt_text s ++ newline; next = record { machine = s; mode = Over ScriptEnd } }
 session_lines m (line ∷ rest) s =
-    after_line (line_said line (with_read s rest)).outcome (line_text line (with_read s rest))
-    (line_said line (with_read s rest)).machine m (session_lines m rest (line_said line (with_read s rest)).machine)
+    after_line (line_said m 0 line (with_read s rest)).outcome (line_text m 0 line (with_read s rest))
+    (line_said m 0 line (with_read s rest)).machine m (session_lines m rest (line_said m 0 line (with_read s rest)).machine)
 
 -- the machine once a session of m is open
 abbrev pub entered : Machine → ℕ → Machine
@@ -299,10 +299,10 @@ held_mode StepOut s m late = Pass m late true
 
 abbrev pub held_line : Mode → List (List ℕ) → Machine → Option Done
 held_line (Hold m late) (line ∷ rest) s = Some (record {
-  text = line_text line (with_read s rest);
+  text = line_text m late line (with_read s rest);
   next = record {
-    machine = (line_said line (with_read s rest)).machine;
-    mode = held_mode (line_said line (with_read s rest)).outcome (line_said line (with_read s rest)).machine m late;
+    machine = (line_said m late line (with_read s rest)).machine;
+    mode = held_mode (line_said m late line (with_read s rest)).outcome (line_said m late line (with_read s rest)).machine m late;
   };
 })
 held_line mode unread s = None

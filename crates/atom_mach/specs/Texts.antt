@@ -1,5 +1,5 @@
 -- What the machine and the debugger print.
-use Rattle.std.specs.Prelude.{ℕ, ◌==◌, ◌&&◌, List, [], ◌∷◌, ◌++◌, codes, filter, if◌then◌else◌}
+use Rattle.std.specs.Prelude.{ℕ, ◌==◌, ◌&&◌, Bool, false, List, [], ◌∷◌, ◌++◌, codes, drop, filter, if◌then◌else◌}
 use Rattle.std.specs.List.{range_with_len}
 use Rattle.mach_base.specs.Number.{dec_text}
 use Rattle.mach_base.specs.Texts.{newline, address_text, has_bit}
@@ -55,12 +55,12 @@ unfoldable pub ending_line : Ending → ℕ → List ℕ
 ending_line ending steps =
     codes "kdbsim: " ++ (ending_text ending ++ (codes " after " ++ (dec_text steps ++ (codes " steps" ++ newline))))
 
+-- whether a `d` comes first
+abbrev pub begins_with_d : List ℕ → Bool
+begins_with_d [] = false
+begins_with_d (b ∷ bs) = b == 100
+
 -- the template with its first %d replaced by the number
 abbrev pub with_number : ℕ → List ℕ → List ℕ
 with_number n [] = []
-with_number n (a ∷ []) = a ∷ []
-with_number n (a ∷ b ∷ rest) = if (a == 37) && (b == 100) then dec_text n ++ rest else a ∷ with_number n (b ∷ rest)
-
--- the diagnostic of a command that there isn't
-unfoldable pub unknown_command_text : List ℕ → List ℕ
-unknown_command_text word = codes "diag: 5: unknown command " ++ (word ++ newline)
+with_number n (a ∷ rest) = if (a == 37) && begins_with_d rest then dec_text n ++ drop 1 rest else a ∷ with_number n rest

@@ -1,11 +1,12 @@
 use crate::one_hart::Core;
 use crate::script::checked_lines;
 use crate::step::{AStep, Mode, StepFault};
-use crate::symbols::Symbols;
 use img_text::{Image, boot};
+use kdb_cmd::Kdb;
 use mach_base::{Ending, OutOfMemory, Text};
 use std::alloc::Global;
 use std::marker::Model;
+use sym_map::Symbols;
 
 /// The atomic machine, in which a session with nobody late is one step. So far it has one hart.
 #[derive(Drop)]
@@ -52,13 +53,15 @@ impl Atom {
         requires high { limit ≤ 4000000 }
         ensures state { IfOk result (λ atom. atom ≡ start_state image.now names script.now harts limit) }
     {
-        let _none = &names.count;
         let booted = boot(alloc, image, harts)?;
         let lines = checked_lines(alloc, script)?;
+        let kdb = Kdb::new(alloc)?;
         Ok(Atom {
             core: Core {
                 contexts: booted.ctxs,
                 map: booted.map,
+                kdb,
+                names,
                 lines,
                 read: 0,
                 limit,
@@ -130,7 +133,7 @@ mod tests {
         let script = b"go\n".as_slice();
         check_script(alloc, script)?;
         let image = read_image(alloc, text)?;
-        let mut atom = Atom::start(alloc, &image, Symbols::read(alloc, &[])?, script, 1, 9)?;
+        let mut atom = Atom::start(alloc, &image, Symbols::empty(alloc), script, 1, 9)?;
         let banner = "Entering kdb on processor 0 due to Start @ 0x0000000000001000\n[0]kdb> go\n";
         for (step, want) in [
             (AStep::Instr(Hart(0)), None),

@@ -12,20 +12,17 @@
 //! - A *turn* is the first step that a machine with one hart may make. A *run* is a list of steps; its *transcript* is
 //!   all that they print, with the line that says how the run ended.
 //!
-//! It stands on one instruction (`hart_step`), the firmware (`trap_ipi`) and the image (`img_text`); `kdbsim_top` stands
-//! on it.
+//! It stands on one instruction (`hart_step`), the firmware (`trap_ipi`), one line of the debugger (`kdb_cmd`) and the
+//! image (`img_text`); `kdbsim_top` stands on it.
 #![tactic(auto)]
 
 mod atom;
-mod line;
 mod one_hart;
 mod script;
 mod step;
-mod symbols;
 mod texts;
 
 pub use atom::Atom;
 pub use script::{ScriptFault, check_script};
-pub use step::{AStep, Mode, Outcome, StepFault};
-pub use symbols::Symbols;
+pub use step::{AStep, Mode, StepFault};
 pub use texts::push_ending_line;

@@ -1,19 +1,18 @@
-ghost use Rattle.std.specs.Prelude.{◌≡◌, ◌+◌, ◌<◌, ◌≤◌, ◌++◌, IsTrue, OnOk, IfOk, vec_len};
+ghost use Rattle.std.specs.Prelude.{◌≡◌, ◌+◌, ◌<◌, ◌≤◌, ◌++◌, [], codes, unwrap_or, IsTrue, OnOk, IfOk, vec_len};
 ghost use Rattle.std.specs.Option.{option_to_list};
-ghost use Rattle.atom_mach.specs.Line.{request_of};
-ghost use Rattle.atom_mach.specs.Step.{first_prompt, output_of, outcome_of};
+ghost use Rattle.kdb_env.specs.Variables.{value_of};
+ghost use Rattle.atom_mach.specs.Texts.{with_number};
 ghost use Rattle.atom_mach.specs.Modes.{owed, is_alone};
 
-use crate::line::{Request, request_of};
-use crate::step::{AStep, Mode, Outcome};
-use crate::texts::{push_banner, push_unknown_command};
+use crate::step::{AStep, Mode};
+use crate::texts::{push_banner, push_with_number};
 use hart_ctx::Context;
 use hart_step::{Did, exec, fault_of};
-use kdb_reg::show_regs;
-use mach_base::{
-    Ending, Fault, Hart, OutOfMemory, Reason, Text, push_bytes, push_dec, push_newline,
-};
+use kdb_cmd::{Kdb, Outcome, run_line};
+use kdb_env::Env;
+use mach_base::{Ending, Fault, Hart, OutOfMemory, Reason, Text, push_bytes, push_newline};
 use mem_map::Map;
+use sym_map::Symbols;
 use trap_ipi::{take, takeable};
 
 /// The only hart.
@@ -27,6 +26,9 @@ const EBREAK: u32 = 0x0010_0073;
 pub struct Core {
     pub contexts: Vec<Context>,
     pub map: Map,
+    /// What the debugger keeps; hart 0 is its current processor.
+    pub kdb: Kdb,
+    pub names: Symbols,
     /// All lines of the script, of which `read` were read.
     pub lines: Vec<Text>,
     pub read: usize,
@@ -40,6 +42,7 @@ pub struct Core {
     ghost few_steps: { limit ≤ 4000000 },
     ghost bounded: { steps + owed mode ≤ limit + read },
     ghost alone: { IsTrue (is_alone mode) },
+    ghost current: { kdb.current ≡ 0 },
 }
 
 impl Core {
@@ -148,6 +151,9 @@ impl Core {
         let context = &self.contexts[0];
         if context.halted {
             return None;
+        }
+        if let Some(place) = self.kdb.breaks.enabled_at(context.pc) {
+            return Some(Reason::Breakpoint(place));
         }
         match self.map.fetch(context.pc) {
             Err(fault) => Some(Reason::Fault(fault)),
@@ -291,6 +297,7 @@ impl Core {
         ensures { OnOk result (session (machine_of self.old) (record { 0 = 0 }) reason ≡ record { text = out.new.items; next = state_of self.new }) }
     {
         push_banner(out, HART, reason, self.contexts[0].pc)?;
+        self.kdb.current = HART.0;
         self.opened = true;
         self.session_lines(out)?;
         Ok(())
@@ -307,10 +314,17 @@ impl Core {
                     self.mode = self.mode_of_go();
                     return Ok(());
                 }
-                Outcome::Step => unreachable!(),
+                Outcome::Step => {
+                    self.mode = Mode::Pass {
+                        master: HART,
+                        late: 0,
+                        again: true,
+                    };
+                    return Ok(());
+                }
             }
         }
-        push_prompt(out)?;
+        push_prompt(out, &self.kdb.env, self.kdb.current)?;
         push_newline(out)?;
         self.mode = Mode::Over(Ending::ScriptEnd);
         Ok(())
@@ -320,10 +334,9 @@ impl Core {
     fn session_line(&mut self, out: &mut Vec<u8>) -> Result<Outcome, OutOfMemory>
         requires { self.old.read < vec_len self.old.lines }
         ensures line { IfOk result (λ outcome. (line : List ℕ) (rest : List (List ℕ)) → (machine_of self.old).unread ≡ line ∷ rest →
-            (out.new.items ≡ out.old.items ++ line_text line (with_read (machine_of self.old) rest))
-            × (outcome ≡ (line_said line (with_read (machine_of self.old) rest)).outcome)
-            × (machine_of self.new ≡ with_read (machine_of self.old) rest)) }
-        ensures outcome { IfOk result (λ outcome. outcome ≢ Outcome.Step) }
+            (out.new.items ≡ out.old.items ++ line_text (record { 0 = 0 }) 0 line (with_read (machine_of self.old) rest))
+            × (outcome ≡ (line_said (record { 0 = 0 }) 0 line (with_read (machine_of self.old) rest)).outcome)
+            × (machine_of self.new ≡ (line_said (record { 0 = 0 }) 0 line (with_read (machine_of self.old) rest)).machine)) }
         ensures read { OnOk result (self.new.read ≡ self.old.read + 1) }
         ensures lines { self.new.lines ≡ self.old.lines }
         ensures steps { self.new.steps ≡ self.old.steps }
@@ -331,12 +344,28 @@ impl Core {
         ensures mode { self.new.mode ≡ self.old.mode }
     {
         let line = self.lines[self.read].as_bytes();
-        push_prompt(out)?;
+        push_prompt(out, &self.kdb.env, self.kdb.current)?;
         push_bytes(out, line)?;
         push_newline(out)?;
-        let outcome = push_output(out, line, &self.contexts[0])?;
+        let said = match run_line(
+            *self.lines.allocator(),
+            &mut self.map,
+            self.contexts.as_mut_slice(),
+            &mut self.kdb,
+            &self.names,
+            1,
+            HART,
+            line,
+        ) {
+            Ok(said) => said,
+            Err(OutOfMemory) => {
+                self.kdb.current = HART.0;
+                return Err(OutOfMemory);
+            }
+        };
+        push_bytes(out, said.text.as_bytes())?;
         self.read += 1;
-        Ok(outcome)
+        Ok(said.outcome)
     }
 
     /// The mode after `go`: a pass where the hart would stop at once.
@@ -381,13 +410,15 @@ impl Core {
     }
 }
 
-/// Appends the prompt of hart 0.
-fn push_prompt(out: &mut Vec<u8>) -> Result<(), OutOfMemory>
-    ensures { OnOk result (out.new.items ≡ out.old.items ++ first_prompt) }
+/// Appends the prompt: the variable PROMPT with its first `%d` replaced by the current processor.
+fn push_prompt(out: &mut Vec<u8>, env: &Env, current: u8) -> Result<(), OutOfMemory>
+    ensures { OnOk result (out.new.items ≡ out.old.items ++ with_number current (unwrap_or (value_of env.now (codes "PROMPT")) [])) }
 {
-    push_bytes(out, b"[")?;
-    push_dec(out, 0)?;
-    push_bytes(out, b"]kdb> ")?;
+    let template = match env.get(b"PROMPT") {
+        Some(template) => template,
+        None => b"",
+    };
+    push_with_number(out, template, u64::from(current))?;
     Ok(())
 }
 
@@ -399,23 +430,4 @@ fn push_console(out: &mut Vec<u8>, byte: Option<u8>) -> Result<(), OutOfMemory>
         out.push(byte)?;
     }
     Ok(())
-}
-
-/// Appends what a line prints behind its echo, and says whether the session goes on.
-fn push_output(out: &mut Vec<u8>, line: &[u8], context: &Context) -> Result<Outcome, OutOfMemory>
-    ensures output { OnOk result (out.new.items ≡ out.old.items ++ output_of (request_of line.now) context.now) }
-    ensures outcome { IfOk result (λ outcome. outcome ≡ outcome_of (request_of line.now)) }
-{
-    match request_of(line) {
-        Request::Nothing => Ok(Outcome::Stay),
-        Request::Leave => Ok(Outcome::Go),
-        Request::ShowRegisters => {
-            show_regs(context, out)?;
-            Ok(Outcome::Stay)
-        }
-        Request::Unknown(word) => {
-            push_unknown_command(out, word)?;
-            Ok(Outcome::Stay)
-        }
-    }
 }

@@ -56,14 +56,3 @@ pub enum Mode {
     /// The run has ended.
     Over(Ending),
 }
-
-/// What a line does to its session.
-#[derive(Clone, Copy, Debug, PartialEq, Eq)]
-pub enum Outcome {
-    /// The session goes on.
-    Stay,
-    /// It is left by `go`.
-    Go,
-    /// It is left by a single step.
-    Step,
-}

@@ -1,5 +1,5 @@
 ghost use Rattle.std.specs.Prelude.{◌≡◌, ◌++◌, OnOk, OnErr};
-ghost use Rattle.atom_mach.specs.Texts.{cause_text, reason_text, banner_text, ending_text, ending_line, unknown_command_text};
+ghost use Rattle.atom_mach.specs.Texts.{cause_text, reason_text, banner_text, ending_text, ending_line, begins_with_d, with_number};
 
 use mach_base::{
     Cause, Ending, Hart, OutOfMemory, Reason, push_address, push_bytes, push_dec, push_newline,
@@ -98,13 +98,28 @@ fn push_ending_parts(out: &mut Vec<u8>, ending: Ending, steps: u64) -> Result<()
     Ok(())
 }
 
-/// Appends the diagnostic of a command that there isn't.
-#[tactic(auto, unfolding(crate::specs::Texts::unknown_command_text))]
-pub fn push_unknown_command(out: &mut Vec<u8>, word: &[u8]) -> Result<(), OutOfMemory>
-    ensures { OnOk result (out.new.items ≡ out.old.items ++ unknown_command_text word.now) }
+/// Appends the template with its first `%d` replaced by the number.
+pub fn push_with_number(out: &mut Vec<u8>, template: &[u8], number: u64) -> Result<(), OutOfMemory>
+    ensures { OnOk result (out.new.items ≡ out.old.items ++ with_number number template.now) }
 {
-    push_bytes(out, b"diag: 5: unknown command ")?;
-    push_bytes(out, word)?;
-    push_newline(out)?;
+    let mut left = template;
+    while let Some((first, rest)) = left.split_first() {
+        if *first == b'%' && begins_with_d(rest) {
+            push_dec(out, number)?;
+            push_bytes(out, &rest[1..])?;
+            return Ok(());
+        }
+        out.push(*first)?;
+        left = rest;
+    }
     Ok(())
+}
+
+fn begins_with_d(bytes: &[u8]) -> bool
+    ensures { result ≡ begins_with_d bytes.now }
+{
+    match bytes {
+        [b'd', ..] => true,
+        _ => false,
+    }
 }

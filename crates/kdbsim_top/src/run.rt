@@ -4,10 +4,11 @@ ghost use Rattle.atom_mach.specs.State.{start_state};
 ghost use Rattle.atom_mach.specs.Run.{IsTranscript, first_allowed};
 ghost use Rattle.kdbsim_top.specs.Causes.{uni_limit};
 
-use atom_mach::{Atom, Symbols, push_ending_line};
+use atom_mach::{Atom, push_ending_line};
 use img_text::Image;
 use mach_base::{Ending, OutOfMemory};
 use std::alloc::Global;
+use sym_map::Symbols;
 
 /// The limit of steps of `uni`.
 const UNI_LIMIT: u64 = 1_000_000;
@@ -24,7 +25,7 @@ pub fn run_uni(alloc: Global, image: &Image, script: &[u8]) -> Result<Told, OutO
     requires { checked_script script.now ≡ Ok tt }
     ensures { IfOk result (λ told. IsTranscript first_allowed (start_state image.now [] script.now 1 uni_limit) told.ending told.transcript.items) }
 {
-    let names = Symbols::read(alloc, &[])?;
+    let names = Symbols::empty(alloc);
     let mut atom = Atom::start(alloc, image, names, script, 1, UNI_LIMIT)?;
     let mut transcript = Vec::new(alloc);
     loop {

@@ -1,19 +1,20 @@
-use Rattle.std.proofs.Common.{◌≡◌, ◌++◌, ◌∷◌, [], suc, drop, get_or, sym, ap, ◌∙◌, refl, arith}
+use Rattle.std.proofs.Common.{◌≡◌, true, ◌++◌, ◌∷◌, [], suc, drop, get_or, sym, ap, ◌∙◌, refl, arith}
 use Rattle.std.proofs.Math.Seq.{drop-cons}
 use Rattle.std.proofs.lemmas.List.{drop_all}
 use Rattle.mach_base.specs.Machine.{Machine}
 use Rattle.atom_mach.specs.Core.{machine_of}
 use Rattle.mach_base.specs.Texts.{newline}
-use Rattle.atom_mach.specs.Step.{first_prompt, prefixed, session_lines, with_read, line_said, line_text, mode_of_go}
-use Rattle.atom_mach.specs.declared.step.Outcome.TheVariants.{Stay, Go}
-use Rattle.atom_mach.specs.declared.step.Mode.TheVariants.{Over}
+use Rattle.atom_mach.specs.Step.{prompt_text, prefixed, session_lines, with_read, line_said, line_text, mode_of_go}
+use Rattle.kdb_cmd.specs.declared.outcomes.Outcome.TheVariants.{Stay, Go, Step as StepOut}
+use Rattle.atom_mach.specs.declared.step.Mode.TheVariants.{Pass, Over}
 use Rattle.mach_base.specs.declared.event.Ending.TheVariants.{ScriptEnd}
 use Rattle.mach_base.proofs.Joins.{join2}
 use Rattle.atom_mach.proofs.Steps.{same_done}
-use Rattle.atom_mach.proofs.Sessions.{session_lines-stay, session_lines-go, session_lines-end}
+use Rattle.atom_mach.proofs.Sessions.{session_lines-stay, session_lines-go, session_lines-step, session_lines-end}
 use Rattle.atom_mach.proofs.one_hart.Core.session_lines.Goals as goal
 
 pub loop-self-preserved : goal.loop-self-preserved
+unfolding line_said
 loop-self-preserved c =
     let core = c.loop-self.self in
     let s = machine_of core in
@@ -21,11 +22,12 @@ loop-self-preserved c =
     let rest = drop (suc core.read) core.lines.items in
     let unread : s.unread ≡ line ∷ rest = drop-cons core.lines.items core.read [] (omega (arith, core.lines.ok.0)) in
     let said = c.in_ok-session_line.ensures.line line rest unread in
-    let stay : (line_said line (with_read s rest)).outcome ≡ Stay = sym said.1 ∙ c.in-Stay.is in
+    let does = line_said (record { 0 = 0 }) 0 line (with_read s rest) in
+    let stay : does.outcome ≡ Stay = sym said.1 ∙ c.in-Stay.is in
     record {
       told =
           ap (λ (x : Machine). prefixed c.session_line.new.out.items (session_lines (record { 0 = 0 }) x.unread x)) said.2
-          ∙ ap (λ o. prefixed o (session_lines (record { 0 = 0 }) rest (with_read s rest))) said.0
+          ∙ ap (λ o. prefixed o (session_lines (record { 0 = 0 }) rest does.machine)) said.0
           ∙ sym (session_lines-stay (record { 0 = 0 }) line rest s c.loop-self.out.items stay)
           ∙ ap (λ u. prefixed c.loop-self.out.items (session_lines (record { 0 = 0 }) u s)) (sym unread)
           ∙ c.loop-self.invariant.told;
@@ -39,12 +41,28 @@ returns-in-Go c =
     let rest = drop (suc core.read) core.lines.items in
     let unread : s.unread ≡ line ∷ rest = drop-cons core.lines.items core.read [] (omega (arith, core.lines.ok.0)) in
     let said = c.in_ok-session_line.ensures.line line rest unread in
-    let go : (line_said line (with_read s rest)).outcome ≡ Go = sym said.1 ∙ c.in-Go.is in
-    let mode : c.mode_of_go-self.result ≡ mode_of_go (with_read s rest) (record { 0 = 0 }) 0 = c.mode_of_go-self.ensures.mode ∙ ap (λ x. mode_of_go x (record { 0 = 0 }) 0) said.2 in
+    let does = line_said (record { 0 = 0 }) 0 line (with_read s rest) in
+    let go : does.outcome ≡ Go = sym said.1 ∙ c.in-Go.is in
+    let mode : c.mode_of_go-self.result ≡ mode_of_go does.machine (record { 0 = 0 }) 0 = c.mode_of_go-self.ensures.mode ∙ ap (λ x. mode_of_go x (record { 0 = 0 }) 0) said.2 in
     sym c.loop-self.invariant.told
     ∙ ap (λ u. prefixed c.loop-self.out.items (session_lines (record { 0 = 0 }) u s)) unread
     ∙ session_lines-go (record { 0 = 0 }) line rest s c.loop-self.out.items go
-    ∙ same_done (c.loop-self.out.items ++ line_text line (with_read s rest)) c.session_line.new.out.items (with_read s rest) (machine_of c.session_line.new.self) (mode_of_go (with_read s rest) (record { 0 = 0 }) 0) c.mode_of_go-self.result said.0 said.2 mode
+    ∙ same_done (c.loop-self.out.items ++ line_text (record { 0 = 0 }) 0 line (with_read s rest)) c.session_line.new.out.items does.machine (machine_of c.session_line.new.self) (mode_of_go does.machine (record { 0 = 0 }) 0) c.mode_of_go-self.result said.0 said.2 mode
+
+pub returns-in-Step : goal.returns-in-Step
+returns-in-Step c =
+    let core = c.loop-self.self in
+    let s = machine_of core in
+    let line = get_or core.lines.items core.read [] in
+    let rest = drop (suc core.read) core.lines.items in
+    let unread : s.unread ≡ line ∷ rest = drop-cons core.lines.items core.read [] (omega (arith, core.lines.ok.0)) in
+    let said = c.in_ok-session_line.ensures.line line rest unread in
+    let does = line_said (record { 0 = 0 }) 0 line (with_read s rest) in
+    let leaves : does.outcome ≡ StepOut = sym said.1 ∙ c.in-Step.is in
+    sym c.loop-self.invariant.told
+    ∙ ap (λ u. prefixed c.loop-self.out.items (session_lines (record { 0 = 0 }) u s)) unread
+    ∙ session_lines-step (record { 0 = 0 }) line rest s c.loop-self.out.items leaves
+    ∙ same_done (c.loop-self.out.items ++ line_text (record { 0 = 0 }) 0 line (with_read s rest)) c.session_line.new.out.items does.machine (machine_of c.session_line.new.self) (Pass (record { 0 = 0 }) 0 true) (Pass (record { 0 = 0 }) 0 true) said.0 said.2 refl
 
 pub returns : goal.returns
 returns c =
@@ -54,5 +72,5 @@ returns c =
     sym c.loop-self.invariant.told
     ∙ ap (λ u. prefixed c.loop-self.out.items (session_lines (record { 0 = 0 }) u s)) unread
     ∙ session_lines-end (record { 0 = 0 }) s c.loop-self.out.items
-    ∙ same_done (c.loop-self.out.items ++ (first_prompt ++ newline)) c.push_newline.new.out.items s s (Over ScriptEnd) (Over ScriptEnd)
-    (join2 c.loop-self.out.items c.push_prompt.new.out.items c.push_newline.new.out.items first_prompt newline c.in_ok-push_prompt.ensures c.in_ok-push_newline.ensures.ok) refl refl
+    ∙ same_done (c.loop-self.out.items ++ (prompt_text s ++ newline)) c.push_newline.new.out.items s s (Over ScriptEnd) (Over ScriptEnd)
+    (join2 c.loop-self.out.items c.push_prompt.new.out.items c.push_newline.new.out.items (prompt_text s) newline c.in_ok-push_prompt.ensures c.in_ok-push_newline.ensures.ok) refl refl
