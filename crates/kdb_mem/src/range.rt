@@ -3,7 +3,7 @@ ghost use Rattle.kdb_mem.specs.Range.{IsWidth, is_unmapped, first_unmapped, byte
 
 use mach_base::Peek;
 
-/// The first unmapped address of `len` bytes from `addr` on. Where there is none, they lie below 2^63 and some.
+/// The first unmapped address of `len` bytes from `addr` on; None where all of them are mapped.
 #[tactic(auto, using(crate::proofs::Ranges::unmapped_at_once))]
 pub fn first_unmapped<P: Peek>(mem: &P, addr: u64, len: u64) -> Option<u64>
     requires { len < 2 ^ 40 }
