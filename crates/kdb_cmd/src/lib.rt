@@ -23,6 +23,8 @@ mod registers;
 mod session;
 mod shown_memory;
 mod spellings;
+#[cfg(test)]
+mod tests;
 mod variables;
 mod views;
 

@@ -1,0 +1,281 @@
+ghost use Rattle.std.specs.Prelude.{◌≡◌, ◌<◌, true};
+ghost use Rattle.mach_base.specs.Texts.{has_bit};
+
+use super::*;
+use hart_ctx::Context;
+use mach_base::{Hart, OutOfMemory, Peek, Text};
+use std::alloc::Global;
+use std::marker::Model;
+use std::process::Abort;
+use std::test::Fail;
+use sym_map::Symbols;
+
+/// Memory from address 0 on, with a text segment of 128 bytes at 0x1000.
+#[derive(Drop)]
+struct Bytes {
+    bytes: Vec<u8>,
+}
+
+impl Model for Bytes {
+    ghost use Rattle.std.specs.Prelude.{ℕ, List};
+
+    ghost Value = { List ℕ };
+
+    ghost view = { λ b. b.bytes.items };
+}
+
+impl Peek for Bytes {
+    ghost use Rattle.std.specs.Prelude.{[], ◌∷◌};
+    ghost use Rattle.std.specs.FinMap as map;
+    ghost use Rattle.mach_base.specs.Machine.{numbered};
+    ghost use Rattle.mach_base.specs.declared.memory_range.Kind.TheVariants.{Text as TextKind};
+
+    ghost memory = { λ bytes. record { segments = record { base = 4096; len = 128; kind = TextKind } ∷ []; bytes = map.from_entries (numbered 0 bytes) } };
+
+    fn peek(&self, addr: u64) -> Option<u8> {
+        if addr < self.bytes.len() as u64 {
+            return Some(self.bytes[addr as usize]);
+        }
+        None
+    }
+
+    fn poke(&mut self, addr: u64, byte: u8) -> bool {
+        if addr < self.bytes.len() as u64 {
+            self.bytes[addr as usize] = byte;
+            return true;
+        }
+        false
+    }
+
+    fn is_text(&self, addr: u64) -> bool {
+        addr % 4 == 0 && 0x1000 <= addr && addr < 0x1080
+    }
+}
+
+/// A session of two processors, entered on processor 0.
+#[derive(Drop)]
+struct Bench {
+    mem: Bytes,
+    ctxs: [Context; 2],
+    kdb: Kdb,
+    names: Symbols,
+    ghost there: { kdb.current < 2 },
+    ghost gathered: { has_bit 3 kdb.current ≡ true },
+}
+
+impl Bench {
+    /// Memory up to 0x2010, whose last 16 bytes are two words, and the symbols `start` and `face`.
+    fn new(alloc: Global) -> Result<Bench, Fail> {
+        let mut bytes = Vec::new(alloc);
+        for _i in 0..0x2000u32 {
+            bytes.push(0)?;
+        }
+        for byte in [
+            0x88, 0x77, 0x66, 0x55, 0x44, 0x33, 0x22, 0x11, 0x41, 0, 0, 0, 0, 0, 0, 0,
+        ] {
+            bytes.push(byte)?;
+        }
+        let kdb = Kdb::new(alloc)?;
+        let names = Symbols::read(
+            alloc,
+            b"0000000000001000 T start\n0000000000002000 D face\n",
+        )?;
+        Ok(Bench {
+            mem: Bytes { bytes },
+            ctxs: [Context::new(0x1000, 0); 2],
+            kdb,
+            names,
+        })
+    }
+
+    fn line(&mut self, alloc: Global, line: &[u8]) -> Result<Said, OutOfMemory> {
+        match run_line(
+            alloc,
+            &mut self.mem,
+            &mut self.ctxs,
+            &mut self.kdb,
+            &self.names,
+            3,
+            Hart(0),
+            line,
+        ) {
+            Ok(said) => Ok(said),
+            Err(lack) => {
+                self.kdb.current = 0;
+                Err(lack)
+            }
+        }
+    }
+}
+
+/// A line, and what it prints.
+type Row = (&'static [u8], &'static [u8]);
+
+/// Each line prints what stands beside it, and the session goes on.
+fn lines_print(
+    rt: &impl Abort,
+    alloc: Global,
+    bench: &mut Bench,
+    rows: &[Row],
+) -> Result<(), Fail> {
+    for row in rows {
+        let (line, text) = *row;
+        let said = bench.line(alloc, line)?;
+        assert_eq!(rt; said.text.as_bytes(), text);
+        assert_eq!(rt; said.outcome, Outcome::Stay);
+    }
+    Ok(())
+}
+
+/// Numbers are hexadecimal until RADIX is set; a symbol wins over a number.
+static MEMORY: [Row; 9] = [
+    (b"md1c1 face", b"0x0000000000002000 88  .\n"),
+    (b"set RADIX=10", b""),
+    (
+        b"md1c2 face+8 | grep \"^0x\"",
+        b"0x0000000000002008 41 00  A.\n",
+    ),
+    (b"md1c1 8194", b"0x0000000000002002 66  f\n"),
+    (b"set RADIX 16", b""),
+    (b"mdr 2000 2", b"8877\n"),
+    (b"mds 2000 1", b"0x0000000000002000 1122334455667788\n"),
+    (
+        b"md4 face 1",
+        b"0x0000000000002000 55667788 11223344 00000041 00000000  .wfUD3\".A.......\n",
+    ),
+    (b" # md 2000", b""),
+];
+
+#[test]
+fn shows_memory(rt: HostRuntime) -> Result<(), Fail> {
+    let mut bench = Bench::new(rt.alloc())?;
+    lines_print(&rt, rt.alloc(), &mut bench, &MEMORY)
+}
+
+/// The refusals of a line and of its arguments, the first that holds.
+static ARGUMENTS: [Row; 16] = [
+    (b"md 3000", b"diag: 12: bad address 0x0000000000003000\n"),
+    (b"md zork 0", b"diag: 1: unknown name zork\n"),
+    (b"md 12g", b"diag: 11: bad number 12g\n"),
+    (b"md %q+1", b"diag: 10: bad register %q+1\n"),
+    (b"md4 2000 0", b"diag: 17: bad count\n"),
+    (b"md4 2000 101", b"diag: 17: bad count\n"),
+    (b"md4c0 zork", b"diag: 1: unknown name zork\n"),
+    (b"md4c0 3000", b"diag: 17: bad count\n"),
+    (b"md4c01 2000", b"diag: 5: unknown command md4c01\n"),
+    (b"mdr 2000 1001", b"diag: 17: bad count\n"),
+    (b"\"\"", b"diag: 5: unknown command \n"),
+    (b"md", b"diag: 2: wrong number of arguments\n"),
+    (b"md \"2000", b"diag: 21: unclosed quote\n"),
+    (
+        b"1 2 3 4 5 6 7 8 9 0 1 2 3 4 5 6 7 8 9 0 1",
+        b"diag: 22: too many words\n",
+    ),
+    (b"md 2000 | sort", b"diag: 23: bad pipe\n"),
+    (b"md zork | grep pc", b""),
+];
+
+/// The refusals of the commands that change something.
+static CHANGES: [Row; 14] = [
+    (b"rm q zork", b"diag: 10: bad register q\n"),
+    (b"rm zero zork", b"diag: 1: unknown name zork\n"),
+    (b"rm zero 1", b"diag: 10: bad register zero\n"),
+    (b"mm1 2000 100", b"diag: 11: bad number 100\n"),
+    (
+        b"mm1 3000 100",
+        b"diag: 12: bad address 0x0000000000003000\n",
+    ),
+    (b"set 1a=2", b"diag: 24: bad name 1a=2\n"),
+    (b"set a=b c", b"diag: 24: bad name a=b\n"),
+    (b"set =2", b"diag: 2: wrong number of arguments\n"),
+    (b"set a", b"diag: 2: wrong number of arguments\n"),
+    (b"set RADIX=2", b"diag: 4: bad radix\n"),
+    (b"set BYTESPERWORD 3", b"diag: 3: bad width\n"),
+    (b"set MDCOUNT=0", b"diag: 17: bad count\n"),
+    (b"go zork", b"diag: 1: unknown name zork\n"),
+    (
+        b"env",
+        b"PROMPT=[%d]kdb> \nRADIX=16\nMDCOUNT=8\nBYTESPERWORD=8\nLINES=24\n",
+    ),
+];
+
+#[test]
+fn refuses_by_the_first_cause(rt: HostRuntime) -> Result<(), Fail> {
+    let mut bench = Bench::new(rt.alloc())?;
+    lines_print(&rt, rt.alloc(), &mut bench, &ARGUMENTS)?;
+    lines_print(&rt, rt.alloc(), &mut bench, &CHANGES)?;
+    let context = bench.ctxs[0];
+    assert_eq!(rt; context, Context::new(0x1000, 0));
+    Ok(())
+}
+
+#[test]
+fn is_full_at_31_variables(rt: HostRuntime) -> Result<(), Fail> {
+    let mut bench = Bench::new(rt.alloc())?;
+    for letter in b'a'..=b'z' {
+        let said = bench.line(rt.alloc(), &[b's', b'e', b't', b' ', letter, b'=', b'1'])?;
+        assert!(rt; said.text.as_bytes().is_empty());
+    }
+    let said = bench.line(rt.alloc(), b"set A=1")?;
+    assert_eq!(rt;
+        said.text.as_bytes(),
+        b"diag: 6: too many variables\n".as_slice()
+    );
+    Ok(())
+}
+
+/// A write of two bytes across the granules 0x400 and 0x401.
+static WRITES: [Row; 4] = [
+    (
+        b"mm2 2007 abcd",
+        b"0x0000000000002007 = 0x000000000000abcd\n",
+    ),
+    (b"mm4 2000 7", b"0x0000000000002000 = 0x0000000000000007\n"),
+    (b"mm 200c 1", b"diag: 12: bad address 0x0000000000002010\n"),
+    (
+        b"md face 1",
+        b"0x0000000000002000 cd22334400000007 00000000000000ab  ....D3\".........\n",
+    ),
+];
+
+#[test]
+fn changes_memory_and_ends_reservations(rt: HostRuntime) -> Result<(), Fail> {
+    let mut bench = Bench::new(rt.alloc())?;
+    let mut first = Context::new(0x1000, 0);
+    first.reservation = Some(0x401);
+    let mut second = Context::new(0x1000, 0);
+    second.reservation = Some(0x402);
+    let ctxs = [first, second];
+    bench.ctxs = ctxs;
+    lines_print(&rt, rt.alloc(), &mut bench, &WRITES)?;
+    let (first, second) = (bench.ctxs[0], bench.ctxs[1]);
+    assert_eq!(rt;
+        (first.reservation, second.reservation),
+        (None, Some(0x402))
+    );
+    Ok(())
+}
+
+static REGISTERS: [Row; 4] = [
+    (b"rm ra face+8", b"ra = 0x0000000000002008\n"),
+    (b"rm %fp %ra", b"s0 = 0x0000000000002008\n"),
+    (b"rm pc start+4", b"pc = 0x0000000000001004\n"),
+    (b"rd | grep pc", b"  pc: 0000000000001004\n"),
+];
+
+static ELSEWHERE: [Row; 2] = [
+    (b"go zork", b"diag: 1: unknown name zork\n"),
+    (b"go 1000", b"diag: 15: entered on cpu 0\n"),
+];
+
+#[test]
+fn changes_registers_and_leaves(rt: HostRuntime) -> Result<(), Fail> {
+    let mut bench = Bench::new(rt.alloc())?;
+    lines_print(&rt, rt.alloc(), &mut bench, &REGISTERS)?;
+    let said = bench.line(rt.alloc(), b"go 1002")?;
+    assert_eq!(rt; said.outcome, Outcome::Go);
+    let (first, second) = (bench.ctxs[0], bench.ctxs[1]);
+    assert_eq!(rt; (first.pc, second.pc), (0x1002, 0x1000));
+    bench.kdb.current = 1;
+    lines_print(&rt, rt.alloc(), &mut bench, &ELSEWHERE)
+}
