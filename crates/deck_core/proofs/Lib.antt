@@ -1,3 +1,6 @@
 pub mod Masks
 pub mod Frame
 pub mod Opening
+pub mod Transactions
+pub mod Outside
+pub mod Runs

@@ -131,33 +131,33 @@ PlantedFits planted enabled (phase.PullStep kept follows) = (planted ≡ 0) × T
 PlantedFits planted enabled (phase.Plant kept left) = IsPlanting planted enabled left
 PlantedFits planted enabled _ = planted ≡ enabled
 
--- the step word and the step address, where the word is to be planted: the master's next address, a text word other than
--- its pc, and none planted since the last line
-pub record MayPlantStep (b : Told) (at : ℕ) : Type 0 where
-  pub step : b.step ≡ None
-  pub next : b.next ≡ Some at
-  pub plantable : b.plantable ≡ true
-  pub first : b.stepped ≡ false
+-- the step word may be planted at this address: the master's next address, a text word other than its pc, and none was
+-- planted since the last line
+pub record MayPlantStep (step next : Option ℕ) (plantable stepped : Bool) (at : ℕ) : Type 0 where
+  pub free : step ≡ None
+  pub at_next : next ≡ Some at
+  pub text : plantable ≡ true
+  pub first : stepped ≡ false
 
 -- the step word stands at the master's next address
-pub record StepStands (b : Told) : Type 0 where
-  pub step : is_some b.step ≡ true
-  pub next : b.step ≡ b.next
-  pub plantable : b.plantable ≡ true
+pub record StepStands (step next : Option ℕ) (plantable : Bool) : Type 0 where
+  pub stands : is_some step ≡ true
+  pub at_next : step ≡ next
+  pub text : plantable ≡ true
 
 -- the step word, by the master's phase
-abbrev pub StepFits : Told → Phase → Type 0
-StepFits b (phase.PlantStep kept at) = MayPlantStep b at
-StepFits b (phase.PassStep kept true) = StepStands b
-StepFits b (phase.PassStep kept false) = (b.step ≡ None) × (b.plantable ≡ false)
-StepFits b (phase.PullStep kept follows) = is_some b.step ≡ true
-StepFits b _ = b.step ≡ None
+abbrev pub StepFits : Option ℕ → Option ℕ → Bool → Bool → Phase → Type 0
+StepFits step next plantable stepped (phase.PlantStep kept at) = MayPlantStep step next plantable stepped at
+StepFits step next plantable stepped (phase.PassStep kept true) = StepStands step next plantable
+StepFits step next plantable stepped (phase.PassStep kept false) = (step ≡ None) × (plantable ≡ false)
+StepFits step next plantable stepped (phase.PullStep kept follows) = is_some step ≡ true
+StepFits step next plantable stepped _ = step ≡ None
 
 -- what holds of the bus while no ending stands
 pub record Working (master : ℕ) (gate : ℕ) (lead : Phase) (b : Told) : Type 0 where
   pub session : session_fits master lead b.faults b.session ≡ true
   pub planted : PlantedFits b.planted b.enabled lead
-  pub step : StepFits b lead
+  pub step : StepFits b.step b.next b.plantable b.stepped lead
   pub read : has_read lead ≡ true → openings gate < b.lines
 
 -- a test at the master's number, by the master word
