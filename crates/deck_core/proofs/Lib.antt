@@ -4,3 +4,4 @@ pub mod Opening
 pub mod Transactions
 pub mod Outside
 pub mod Runs
+pub mod Elects

@@ -1,5 +1,5 @@
 -- The laws.
-use Rattle.std.specs.Prelude.{◌≡◌, ℕ, ◌<◌, true}
+use Rattle.std.specs.Prelude.{◌≡◌, ℕ, ◌<◌, Bool, true}
 use Rattle.deck_core.specs.Told.{Told, IsTold, IsOpening}
 use Rattle.deck_core.specs.Configuration.{Configuration, opening}
 use Rattle.deck_core.specs.Contract.{Acts}
@@ -7,6 +7,9 @@ use Rattle.deck_core.specs.Tick.{tick, act_of, makes_call}
 use Rattle.deck_core.specs.Invariant.{Sound}
 use Rattle.deck_core.specs.declared.phase.Phase.{Phase}
 use Rattle.deck_core.specs.declared.phase.Phase.TheVariants as phase
+use Rattle.deck_core.specs.declared.phase.Kept.{Kept}
+use Rattle.deck_core.specs.declared.phase.Looks.{Looks}
+use Rattle.deck_core.specs.declared.phase.Then.{Then}
 use Rattle.deck_core.specs.declared.act.Answer.{Answer}
 
 -- the opening configuration, over an opening bus, meets the invariant
@@ -40,3 +43,48 @@ FinishedKeeps = KeepsIn phase.Finished
 
 abbrev pub RunKeeps : Type 0
 RunKeeps = KeepsIn phase.Run
+
+abbrev pub OwnKeeps : Type 0
+OwnKeeps = KeepsIn phase.Own
+
+abbrev pub ShutKeeps : Type 0
+ShutKeeps = KeepsIn phase.Shut
+
+abbrev pub SendKeeps : Type 0
+SendKeeps = (to : ℕ) → KeepsIn (phase.Send to)
+
+abbrev pub GatherKeeps : Type 0
+GatherKeeps = (looks : Looks) → KeepsIn (phase.Gather looks)
+
+abbrev pub EnterKeeps : Type 0
+EnterKeeps = (kept : Kept) (reopens : Bool) → KeepsIn (phase.Enter kept reopens)
+
+abbrev pub PullKeeps : Type 0
+PullKeeps = (kept : Kept) (left : ℕ) → KeepsIn (phase.Pull kept left)
+
+abbrev pub LinesKeeps : Type 0
+LinesKeeps = (kept : Kept) → KeepsIn (phase.Lines kept)
+
+abbrev pub PlantStepKeeps : Type 0
+PlantStepKeeps = (kept : Kept) (at : ℕ) → KeepsIn (phase.PlantStep kept at)
+
+abbrev pub PassStepKeeps : Type 0
+PassStepKeeps = (kept : Kept) (planted : Bool) → KeepsIn (phase.PassStep kept planted)
+
+abbrev pub PullStepKeeps : Type 0
+PullStepKeeps = (kept : Kept) (follows : Then) → KeepsIn (phase.PullStep kept follows)
+
+abbrev pub PlantKeeps : Type 0
+PlantKeeps = (kept : Kept) (left : ℕ) → KeepsIn (phase.Plant kept left)
+
+abbrev pub CloseKeeps : Type 0
+CloseKeeps = (kept : Kept) → KeepsIn (phase.Close kept)
+
+abbrev pub OpenGateKeeps : Type 0
+OpenGateKeeps = KeepsIn phase.OpenGate
+
+abbrev pub DropKeeps : Type 0
+DropKeeps = KeepsIn phase.Drop
+
+abbrev pub FreeKeeps : Type 0
+FreeKeeps = KeepsIn phase.Free
