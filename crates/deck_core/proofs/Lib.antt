@@ -5,3 +5,4 @@ pub mod Transactions
 pub mod Outside
 pub mod Runs
 pub mod Elects
+pub mod Gathers
