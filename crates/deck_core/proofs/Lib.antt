@@ -6,3 +6,4 @@ pub mod Outside
 pub mod Runs
 pub mod Elects
 pub mod Gathers
+pub mod Enters
