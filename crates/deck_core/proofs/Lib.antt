@@ -7,3 +7,4 @@ pub mod Runs
 pub mod Elects
 pub mod Gathers
 pub mod Enters
+pub mod Sessions

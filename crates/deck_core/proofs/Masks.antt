@@ -2,7 +2,7 @@
 use Rattle.std.proofs.Common.{◌≡◌, ℕ, suc, zero, ◌+◌, ◌-◌, ◌*◌, ◌/◌, ◌%◌, ◌^◌, ◌<◌, ◌≤◌, ◌≢◌, ◌==◌, ◌&&◌, ◌||◌, Bool, true, false, not, nat_lt, refl, sym, ◌∙◌, ap, subst, inl, inr, arith, max, min, bit_or, bit_xor}
 use Rattle.std.proofs.lemmas.Bool.{cases_eq, cases_lt, eq-eqb, ne_eqb, eqb-true, eqb-false, lt-ltb, le-ltb, false_from_ne_true}
 use Rattle.std.proofs.lemmas.Nat.{or_lt, xor_lt, pow_below, pow_pos, shr_high, mod_low}
-use Rattle.std.proofs.lemmas.Nat.Bits.{bit_at_or, bit_at_xor, bit_at-pow_same, bit_at-pow_other, bit_at-zero, bit_at_ones, bit_at_ones_above, bit_at_above, bit_at-lt, bit_at-trailing_zeros}
+use Rattle.std.proofs.lemmas.Nat.Bits.{bit_at_or, bit_at_xor, bit_at-pow_same, bit_at-pow_other, bit_at-zero, bit_at_ones, bit_at_ones_above, bit_at_above, bit_at-lt, bit_at-trailing_zeros, same_from_bits}
 use Rattle.std.specs.Int.{bit_at, w64}
 use Rattle.deck_core.specs.Words.{has, mask_with, mask_without, all_but, least, turn_word, mask_of, holder_of}
 
@@ -90,3 +90,13 @@ pow_32 n le =
     elim (cases_lt n 32) [
       inl p ↦ omega (arith, pow_below n 32 p)
     | inr p ↦ let e : n ≡ 32 = omega arith in subst (λ k. 2 ^ k ≤ 2 ^ 32) (sym e) (omega arith) ]
+
+-- two masks with the same numbers are one
+pub same_mask : (a b : ℕ) → ((k : ℕ) → has a k ≡ has b k) → a ≡ b
+unfolding has
+same_mask a b same = same_from_bits a b (λ k.
+    elim (cases_eq (bit_at a k) 1) [
+      inl e ↦ e ∙ sym (eqb-true (bit_at b k) 1 (sym (same k) ∙ eq-eqb (bit_at a k) 1 e))
+    | inr ne ↦
+        let ne2 : bit_at b k ≡ 1 → ⊥ = eqb-false (bit_at b k) 1 (sym (same k) ∙ ne_eqb (bit_at a k) 1 ne) in
+        omega (arith, ne, ne2, bit_at-lt a k, bit_at-lt b k) ])
