@@ -8,3 +8,5 @@ pub mod Elects
 pub mod Gathers
 pub mod Enters
 pub mod Sessions
+pub mod Leaves
+pub mod Ticks

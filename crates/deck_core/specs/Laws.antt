@@ -1,9 +1,9 @@
 -- The laws.
-use Rattle.std.specs.Prelude.{◌≡◌, ℕ, ◌<◌, Bool, true}
+use Rattle.std.specs.Prelude.{◌≡◌, ℕ, ◌<◌, Bool, true, List}
 use Rattle.deck_core.specs.Told.{Told, IsTold, IsOpening}
 use Rattle.deck_core.specs.Configuration.{Configuration, opening}
 use Rattle.deck_core.specs.Contract.{Acts}
-use Rattle.deck_core.specs.Tick.{tick, act_of, makes_call}
+use Rattle.deck_core.specs.Tick.{tick, act_of, makes_call, Ticks, TicksAll}
 use Rattle.deck_core.specs.Invariant.{Sound}
 use Rattle.deck_core.specs.declared.phase.Phase.{Phase}
 use Rattle.deck_core.specs.declared.phase.Phase.TheVariants as phase
@@ -88,3 +88,11 @@ DropKeeps = KeepsIn phase.Drop
 
 abbrev pub FreeKeeps : Type 0
 FreeKeeps = KeepsIn phase.Free
+
+-- each tick keeps the invariant, in every phase
+abbrev pub EveryTickKeeps : Type 0
+EveryTickKeeps = (c : Configuration) (h : ℕ) (next : Configuration) → Sound c → h < c.told.harts → Ticks h c next → Sound next
+
+-- and so does each list of ticks
+abbrev pub EveryPlanKeeps : Type 0
+EveryPlanKeeps = (plan : List ℕ) (c last : Configuration) → Sound c → TicksAll plan c last → Sound last
