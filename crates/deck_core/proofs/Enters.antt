@@ -169,7 +169,7 @@ inside_marked c h kept false i w None t k ne x =
         (ap not (ne_eqb (suc h) (suc k) (λ q. ne (omega (arith, q))))))
 
 -- there is no step word when a session opens
-enter_step : (kept : Kept) (reopens : Bool) (step next : Option ℕ) (plantable stepped : Bool) → StepFits step next plantable stepped (phase.Enter kept reopens) → step ≡ None
+pub enter_step : (kept : Kept) (reopens : Bool) (step next : Option ℕ) (plantable stepped : Bool) → StepFits step next plantable stepped (phase.Enter kept reopens) → step ≡ None
 enter_step kept reopens step next plantable stepped f = f
 
 entered_in : (c : Configuration) (h : ℕ) (kept : Kept) (reopens : Bool) (after : Told) → Sound c → c.phase h ≡ phase.Enter kept reopens → holds (c.place h) ≡ true → c.told.over ≡ false → after ≡ opened h kept.late c.told after → IsTold after → Sound (gives h (pulling kept c.told.planted) after c)

@@ -10,3 +10,4 @@ pub mod Enters
 pub mod Sessions
 pub mod Leaves
 pub mod Ticks
+pub mod Conditions

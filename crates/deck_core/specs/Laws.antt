@@ -1,8 +1,10 @@
 -- The laws.
-use Rattle.std.specs.Prelude.{◌≡◌, ℕ, ◌<◌, Bool, true, List}
+use Rattle.std.specs.Prelude.{◌≡◌, ℕ, ◌<◌, ◌≤◌, Bool, true, false, List, Some}
+use Rattle.deck_core.specs.Words.{has}
+use Rattle.deck_core.specs.Phases.{is_masters}
 use Rattle.deck_core.specs.Told.{Told, IsTold, IsOpening}
 use Rattle.deck_core.specs.Configuration.{Configuration, opening}
-use Rattle.deck_core.specs.Contract.{Acts}
+use Rattle.deck_core.specs.Contract.{Acts, is_allowed}
 use Rattle.deck_core.specs.Tick.{tick, act_of, makes_call, Ticks, TicksAll}
 use Rattle.deck_core.specs.Invariant.{Sound}
 use Rattle.deck_core.specs.declared.phase.Phase.{Phase}
@@ -10,6 +12,7 @@ use Rattle.deck_core.specs.declared.phase.Phase.TheVariants as phase
 use Rattle.deck_core.specs.declared.phase.Kept.{Kept}
 use Rattle.deck_core.specs.declared.phase.Looks.{Looks}
 use Rattle.deck_core.specs.declared.phase.Then.{Then}
+use Rattle.deck_core.specs.declared.notes.Sitting.{Sitting}
 use Rattle.deck_core.specs.declared.act.Answer.{Answer}
 
 -- the opening configuration, over an opening bus, meets the invariant
@@ -96,3 +99,27 @@ EveryTickKeeps = (c : Configuration) (h : ℕ) (next : Configuration) → Sound 
 -- and so does each list of ticks
 abbrev pub EveryPlanKeeps : Type 0
 EveryPlanKeeps = (plan : List ℕ) (c last : Configuration) → Sound c → TicksAll plan c last → Sound last
+
+-- the one call that a hart's phase makes is allowed
+abbrev pub CallIsAllowed : Type 0
+CallIsAllowed = (c : Configuration) (h : ℕ) → Sound c → h < c.told.harts → makes_call h c ≡ true → is_allowed (act_of h (c.phase h)) c.told ≡ true
+
+-- at most one hart is in a master's phase
+abbrev pub OneMaster : Type 0
+OneMaster = (c : Configuration) (h k : ℕ) → Sound c → is_masters (c.phase h) ≡ true → is_masters (c.phase k) ≡ true → h ≡ k
+
+-- a hart that runs isn't in the mask
+abbrev pub RunsUnmasked : Type 0
+RunsUnmasked = (c : Configuration) (h : ℕ) → Sound c → c.phase h ≡ phase.Run → has c.told.mask h ≡ false
+
+-- sessions never overlap: where one is open, the hart that opens one is its master, and opens it again
+abbrev pub SessionsNeverOverlap : Type 0
+SessionsNeverOverlap = (c : Configuration) (h : ℕ) (kept : Kept) (reopens : Bool) (sitting : Sitting) → Sound c → c.phase h ≡ phase.Enter kept reopens → c.told.over ≡ false → c.told.session ≡ Some sitting → (reopens ≡ true) × (sitting.master.0 ≡ h)
+
+-- a hart whose trap is gone when it is checked goes back without a session
+abbrev pub GoneTrapDrops : Type 0
+GoneTrapDrops = (c : Configuration) (h : ℕ) (next : Configuration) → Sound c → c.phase h ≡ phase.Own → makes_call h c ≡ true → has c.told.traps h ≡ false → Ticks h c next → next.phase h ≡ phase.Drop
+
+-- the gate's number is at most 8,196
+abbrev pub GateIsBounded : Type 0
+GateIsBounded = (c : Configuration) → Sound c → c.gate ≤ 8196
