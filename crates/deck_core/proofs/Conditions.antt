@@ -38,7 +38,7 @@ allowed_from : (a : Act) (b : Told) → names_what_is a b.harts ≡ true → (b.
 unfolding is_allowed
 allowed_from a b names legal =
     and_from (names_what_is a b.harts) (b.over || is_legal a b) names
-      (elim (cases_Bool b.over) [ inl o ↦ or_left b.over (is_legal a b) o | inr w ↦ or_right b.over (is_legal a b) (legal w) ])
+    (elim (cases_Bool b.over) [ inl o ↦ or_left b.over (is_legal a b) o | inr w ↦ or_right b.over (is_legal a b) (legal w) ])
 
 -- what the session of the master's phase is known to be
 session_is : (h : ℕ) (lead : Phase) (faults : ℕ) (session : Option Sitting) (test : Sitting → Bool) → is_in_session lead ≡ true → session_fits (suc h) lead faults session ≡ true → ((sitting : Sitting) → sitting.master.0 ≡ h → sitting.late ≡ late_of lead → stage_fits (has faults sitting.master.0) lead sitting.stage ≡ true → test sitting ≡ true) → in_session test session ≡ true
@@ -54,7 +54,7 @@ session_none : (h : ℕ) (lead : Phase) (faults : ℕ) (session : Option Sitting
 session_none h lead faults None none f = refl
 session_none h lead faults (Some sitting) none f =
     absurd (both_ways (stage_fits (has faults sitting.master.0) lead sitting.stage) (none (has faults sitting.master.0) sitting.stage)
-      (and_parts ((suc h == suc sitting.master.0) && (sitting.late == late_of lead)) (stage_fits (has faults sitting.master.0) lead sitting.stage) f).1)
+    (and_parts ((suc h == suc sitting.master.0) && (sitting.late == late_of lead)) (stage_fits (has faults sitting.master.0) lead sitting.stage) f).1)
 
 of_h : (h : ℕ) (sitting : Sitting) → sitting.master.0 ≡ h → is_of h sitting ≡ true
 of_h h sitting e = eq-eqb sitting.master.0 h e
@@ -63,8 +63,9 @@ pub runs_unmasked : RunsUnmasked
 runs_unmasked c h s e = false_from_ne_true (has c.told.mask h) (λ x.
     let apart : (c.master == suc h) ≡ false = sym (s.harts h).masters ∙ ap is_masters e in
     elim (or_cases (c.master == suc h) (is_marked c.gate (c.phase h)) ((s.marks h).masked x)) [
-      inl q ↦ both_ways (c.master == suc h) apart q
-    | inr q ↦ both_ways false refl (ap (is_marked c.gate) (sym e) ∙ q) ])
+      | inl q ↦ both_ways (c.master == suc h) apart q
+      | inr q ↦ both_ways false refl (ap (is_marked c.gate) (sym e) ∙ q)
+    ])
 
 run_allowed : (c : Configuration) (h : ℕ) → Sound c → h < c.told.harts → c.phase h ≡ phase.Run → is_allowed (act.HartStep (record { 0 = h })) c.told ≡ true
 run_allowed c h s lt e = allowed_from (act.HartStep (record { 0 = h })) c.told (lt-ltb h c.told.harts lt) (λ w. ap not (runs_unmasked c h s e))
@@ -84,14 +85,14 @@ send_allowed c h to s e =
     let i : Mine c h (phase.Send to) = mine c h (phase.Send to) s e refl in
     let ne : h ≡ to → ⊥ = λ x. eqb-false (suc h) (suc to) i.lead.range.other (ap suc x) in
     let few : called c.told.harts (suc h) (phase.Send to) < c.told.harts - 1 =
-      elim (called_is c.told.harts h to) [ inl a ↦ omega (arith, a.0, a.1, ne, i.below) | inr a ↦ omega (arith, a.0, a.1, ne, i.lead.range.below) ] in
+    elim (called_is c.told.harts h to) [ inl a ↦ omega (arith, a.0, a.1, ne, i.below) | inr a ↦ omega (arith, a.0, a.1, ne, i.lead.range.below) ] in
     let opened : openings c.gate ≤ c.told.lines + bit (c.told.over && false) = i.lead.lines in
     allowed_from (act.Send (record { 0 = to })) c.told (lt-ltb to c.told.harts i.lead.range.below)
-      (λ w. and_from (is_none c.told.session) (nat_lt c.told.sends ((c.told.harts - 1) * suc c.told.lines))
-        (session_none h (phase.Send to) c.told.faults c.told.session (λ f at. refl) (i.lead.working w).session)
-        (lt-ltb c.told.sends ((c.told.harts - 1) * suc c.told.lines)
-          (sends_less c.told.harts (openings c.gate) c.told.lines c.told.sends (called c.told.harts (suc h) (phase.Send to)) i.lead.sends
-            (omega (arith, opened, bit_and_false c.told.over)) few)))
+    (λ w. and_from (is_none c.told.session) (nat_lt c.told.sends ((c.told.harts - 1) * suc c.told.lines))
+    (session_none h (phase.Send to) c.told.faults c.told.session (λ f at. refl) (i.lead.working w).session)
+    (lt-ltb c.told.sends ((c.told.harts - 1) * suc c.told.lines)
+    (sends_less c.told.harts (openings c.gate) c.told.lines c.told.sends (called c.told.harts (suc h) (phase.Send to)) i.lead.sends
+    (omega (arith, opened, bit_and_false c.told.over)) few)))
 
 late_names : (c : Configuration) (h : ℕ) (late : ℕ) → h < c.told.harts → LateFits c.told.harts (suc h) late → names_what_is (act.Enter (record { 0 = h }) late) c.told.harts ≡ true
 late_names c h late lt f = and_from (nat_lt h c.told.harts) (nat_lt late (2 ^ c.told.harts)) (lt-ltb h c.told.harts lt) (lt-ltb late (2 ^ c.told.harts) f.below)
@@ -102,7 +103,7 @@ not_late harts h late f = false_from_ne_true (has late h) (λ x. both_ways (suc 
 first_enter_legal : (c : Configuration) (h : ℕ) (kept : Kept) (session : Option Sitting) → Mine c h (phase.Enter kept false) → c.told.over ≡ false → session_fits (suc h) (phase.Enter kept false) c.told.faults session ≡ true → may_open h kept.late c.told session ≡ true
 first_enter_legal c h kept None i w f =
     and_from (not (has kept.late h)) (has c.told.traps h) (ap not (not_late c.told.harts h kept.late i.lead.range))
-      (elim (or_cases c.told.over (has c.told.traps h) (i.lead.trap refl)) [ inl o ↦ absurd (both_ways c.told.over w o) | inr t ↦ t ])
+    (elim (or_cases c.told.over (has c.told.traps h) (i.lead.trap refl)) [ inl o ↦ absurd (both_ways c.told.over w o) | inr t ↦ t ])
 first_enter_legal c h kept (Some sitting) i w f =
     absurd (both_ways false refl ((and_parts ((suc h == suc sitting.master.0) && (sitting.late == kept.late)) false f).1))
 
@@ -110,51 +111,51 @@ second_enter_legal : (c : Configuration) (h : ℕ) (kept : Kept) (session : Opti
 second_enter_legal c h kept None i none f = absurd (both_ways false refl f)
 second_enter_legal c h kept (Some sitting) i none f =
     session_is h (phase.Enter kept true) c.told.faults (Some sitting)
-      (λ s. (is_of h s && (s.late == kept.late)) && (is_none c.told.step && comes_back (has c.told.faults h) s.stage)) refl f
-      (λ s here late stage.
-        and_from (is_of h s && (s.late == kept.late)) (is_none c.told.step && comes_back (has c.told.faults h) s.stage)
-          (and_from (is_of h s) (s.late == kept.late) (of_h h s here) (eq-eqb s.late kept.late late))
-          (and_from (is_none c.told.step) (comes_back (has c.told.faults h) s.stage) (ap is_none none)
-            (subst (λ k. comes_back (has c.told.faults k) s.stage ≡ true) here stage)))
+    (λ s. (is_of h s && (s.late == kept.late)) && (is_none c.told.step && comes_back (has c.told.faults h) s.stage)) refl f
+    (λ s here late stage.
+    and_from (is_of h s && (s.late == kept.late)) (is_none c.told.step && comes_back (has c.told.faults h) s.stage)
+    (and_from (is_of h s) (s.late == kept.late) (of_h h s here) (eq-eqb s.late kept.late late))
+    (and_from (is_none c.told.step) (comes_back (has c.told.faults h) s.stage) (ap is_none none)
+    (subst (λ k. comes_back (has c.told.faults k) s.stage ≡ true) here stage)))
 
 enter_allowed : (c : Configuration) (h : ℕ) (kept : Kept) (reopens : Bool) → Sound c → c.phase h ≡ phase.Enter kept reopens → is_allowed (act.Enter (record { 0 = h }) kept.late) c.told ≡ true
 enter_allowed c h kept false s e =
     let i : Mine c h (phase.Enter kept false) = mine c h (phase.Enter kept false) s e refl in
     allowed_from (act.Enter (record { 0 = h }) kept.late) c.told (late_names c h kept.late i.below i.lead.range)
-      (λ w. first_enter_legal c h kept c.told.session i w (i.lead.working w).session)
+    (λ w. first_enter_legal c h kept c.told.session i w (i.lead.working w).session)
 enter_allowed c h kept true s e =
     let i : Mine c h (phase.Enter kept true) = mine c h (phase.Enter kept true) s e refl in
     allowed_from (act.Enter (record { 0 = h }) kept.late) c.told (late_names c h kept.late i.below i.lead.range)
-      (λ w. second_enter_legal c h kept c.told.session i (enter_step kept true c.told.step c.told.next c.told.plantable c.told.stepped (i.lead.working w).step) (i.lead.working w).session)
+    (λ w. second_enter_legal c h kept c.told.session i (enter_step kept true c.told.step c.told.next c.told.plantable c.told.stepped (i.lead.working w).step) (i.lead.working w).session)
 
 pull_allowed : (c : Configuration) (h : ℕ) (kept : Kept) (left : ℕ) → Sound c → c.phase h ≡ phase.Pull kept left → is_allowed (act.Pull (least left)) c.told ≡ true
 pull_allowed c h kept left s e =
     let i : Mine c h (phase.Pull kept left) = mine c h (phase.Pull kept left) s e refl in
     allowed_from (act.Pull (least left)) c.told (lt-ltb (least left) 16 (least_below left i.lead.range.1))
-      (λ w. and_from (in_session (λ s. is_lines s.stage) c.told.session) (has c.told.planted (least left))
-        (session_is h (phase.Pull kept left) c.told.faults c.told.session (λ s. is_lines s.stage) refl (i.lead.working w).session (λ s here late at. at))
-        (ap (λ m. has m (least left)) (i.lead.working w).planted ∙ has-least left i.lead.range.1.some i.lead.range.1.places))
+    (λ w. and_from (in_session (λ s. is_lines s.stage) c.told.session) (has c.told.planted (least left))
+    (session_is h (phase.Pull kept left) c.told.faults c.told.session (λ s. is_lines s.stage) refl (i.lead.working w).session (λ s here late at. at))
+    (ap (λ m. has m (least left)) (i.lead.working w).planted ∙ has-least left i.lead.range.1.some i.lead.range.1.places))
 
 lines_allowed : (c : Configuration) (h : ℕ) (kept : Kept) → Sound c → c.phase h ≡ phase.Lines kept → is_allowed (act.Line (record { 0 = h })) c.told ≡ true
 lines_allowed c h kept s e =
     let i : Mine c h (phase.Lines kept) = mine c h (phase.Lines kept) s e refl in
     allowed_from (act.Line (record { 0 = h })) c.told (lt-ltb h c.told.harts i.below)
-      (λ w. and_from (in_session (λ s. is_of h s && is_lines s.stage) c.told.session) (c.told.planted == 0)
-        (session_is h (phase.Lines kept) c.told.faults c.told.session (λ s. is_of h s && is_lines s.stage) refl (i.lead.working w).session
-          (λ s here late at. and_from (is_of h s) (is_lines s.stage) (of_h h s here) at))
-        (eq-eqb c.told.planted 0 (i.lead.working w).planted))
+    (λ w. and_from (in_session (λ s. is_of h s && is_lines s.stage) c.told.session) (c.told.planted == 0)
+    (session_is h (phase.Lines kept) c.told.faults c.told.session (λ s. is_of h s && is_lines s.stage) refl (i.lead.working w).session
+    (λ s here late at. and_from (is_of h s) (is_lines s.stage) (of_h h s here) at))
+    (eq-eqb c.told.planted 0 (i.lead.working w).planted))
 
 plant_step_allowed : (c : Configuration) (h : ℕ) (kept : Kept) (at : ℕ) → Sound c → c.phase h ≡ phase.PlantStep kept at → is_allowed (act.PlantStep at) c.told ≡ true
 plant_step_allowed c h kept at s e =
     let i : Mine c h (phase.PlantStep kept at) = mine c h (phase.PlantStep kept at) s e refl in
     allowed_from (act.PlantStep at) c.told refl
-      (λ w. let f : MayPlantStep c.told.step c.told.next c.told.plantable c.told.stepped at = (i.lead.working w).step in
-        and_from (in_session (λ s. is_pass s.stage) c.told.session) (is_none c.told.step && ((is_address at c.told.next && c.told.plantable) && not c.told.stepped))
-        (session_is h (phase.PlantStep kept at) c.told.faults c.told.session (λ s. is_pass s.stage) refl (i.lead.working w).session (λ s here late x. x))
-        (and_from (is_none c.told.step) ((is_address at c.told.next && c.told.plantable) && not c.told.stepped) (ap is_none f.free)
-          (and_from (is_address at c.told.next && c.told.plantable) (not c.told.stepped)
-            (and_from (is_address at c.told.next) c.told.plantable (ap (is_address at) f.at_next ∙ eq-eqb at at refl) f.text)
-            (ap not f.first))))
+    (λ w. let f : MayPlantStep c.told.step c.told.next c.told.plantable c.told.stepped at = (i.lead.working w).step in
+    and_from (in_session (λ s. is_pass s.stage) c.told.session) (is_none c.told.step && ((is_address at c.told.next && c.told.plantable) && not c.told.stepped))
+    (session_is h (phase.PlantStep kept at) c.told.faults c.told.session (λ s. is_pass s.stage) refl (i.lead.working w).session (λ s here late x. x))
+    (and_from (is_none c.told.step) ((is_address at c.told.next && c.told.plantable) && not c.told.stepped) (ap is_none f.free)
+    (and_from (is_address at c.told.next && c.told.plantable) (not c.told.stepped)
+    (and_from (is_address at c.told.next) c.told.plantable (ap (is_address at) f.at_next ∙ eq-eqb at at refl) f.text)
+    (ap not f.first))))
 
 pass_step_word : (step next : Option ℕ) (plantable stepped : Bool) (kept : Kept) (planted : Bool) → StepFits step next plantable stepped (phase.PassStep kept planted) → (if plantable then is_some step else is_none step) ≡ true
 pass_step_word step next plantable stepped kept true f = ap (λ b. if b then is_some step else is_none step) f.text ∙ f.stands
@@ -164,10 +165,10 @@ pass_step_allowed : (c : Configuration) (h : ℕ) (kept : Kept) (planted : Bool)
 pass_step_allowed c h kept planted s e =
     let i : Mine c h (phase.PassStep kept planted) = mine c h (phase.PassStep kept planted) s e refl in
     allowed_from (act.PassStep (record { 0 = h })) c.told (lt-ltb h c.told.harts i.below)
-      (λ w. and_from (in_session (λ s. is_of h s && is_pass s.stage) c.told.session) (if c.told.plantable then is_some c.told.step else is_none c.told.step)
-        (session_is h (phase.PassStep kept planted) c.told.faults c.told.session (λ s. is_of h s && is_pass s.stage) refl (i.lead.working w).session
-          (λ s here late at. and_from (is_of h s) (is_pass s.stage) (of_h h s here) at))
-        (pass_step_word c.told.step c.told.next c.told.plantable c.told.stepped kept planted (i.lead.working w).step))
+    (λ w. and_from (in_session (λ s. is_of h s && is_pass s.stage) c.told.session) (if c.told.plantable then is_some c.told.step else is_none c.told.step)
+    (session_is h (phase.PassStep kept planted) c.told.faults c.told.session (λ s. is_of h s && is_pass s.stage) refl (i.lead.working w).session
+    (λ s here late at. and_from (is_of h s) (is_pass s.stage) (of_h h s here) at))
+    (pass_step_word c.told.step c.told.next c.told.plantable c.told.stepped kept planted (i.lead.working w).step))
 
 comes : (faulting : Bool) (at : Stage) → comes_back faulting at ≡ true → (not (is_pass at) || faulting) ≡ true
 comes faulting stage.Lines x = refl
@@ -190,32 +191,32 @@ pull_step_allowed : (c : Configuration) (h : ℕ) (kept : Kept) (follows : Then)
 pull_step_allowed c h kept follows s e =
     let i : Mine c h (phase.PullStep kept follows) = mine c h (phase.PullStep kept follows) s e refl in
     allowed_from act.PullStep c.told refl
-      (λ w. and_from (is_some c.told.step) (in_session (may_pull_step c.told) c.told.session) (i.lead.working w).step
-        (session_is h (phase.PullStep kept follows) c.told.faults c.told.session (may_pull_step c.told) refl (i.lead.working w).session
-          (λ s here late at. pulls c.told s kept follows at)))
+    (λ w. and_from (is_some c.told.step) (in_session (may_pull_step c.told) c.told.session) (i.lead.working w).step
+    (session_is h (phase.PullStep kept follows) c.told.faults c.told.session (may_pull_step c.told) refl (i.lead.working w).session
+    (λ s here late at. pulls c.told s kept follows at)))
 
 plant_allowed : (c : Configuration) (h : ℕ) (kept : Kept) (left : ℕ) → Sound c → c.phase h ≡ phase.Plant kept left → is_allowed (act.Plant (least left)) c.told ≡ true
 plant_allowed c h kept left s e =
     let i : Mine c h (phase.Plant kept left) = mine c h (phase.Plant kept left) s e refl in
     let was : has left (least left) ≡ true = has-least left i.lead.range.1.some i.lead.range.1.places in
     allowed_from (act.Plant (least left)) c.told (lt-ltb (least left) 16 (least_below left i.lead.range.1))
-      (λ w. let f : IsPlanting c.told.planted c.told.enabled left = (i.lead.working w).planted in
-        let wanted : has c.told.enabled (least left) ≡ true = f.wanted (least left) was in
-        and_from (in_session (λ s. is_leaving s.stage) c.told.session) (is_none c.told.step && (has c.told.enabled (least left) && not (has c.told.planted (least left))))
-        (session_is h (phase.Plant kept left) c.told.faults c.told.session (λ s. is_leaving s.stage) refl (i.lead.working w).session (λ s here late at. at))
-        (and_from (is_none c.told.step) (has c.told.enabled (least left) && not (has c.told.planted (least left))) (ap is_none (i.lead.working w).step)
-          (and_from (has c.told.enabled (least left)) (not (has c.told.planted (least left))) wanted
-            (ap not (f.others (least left) ∙ and_right (has c.told.enabled (least left)) (not (has left (least left))) (ap not was))))))
+    (λ w. let f : IsPlanting c.told.planted c.told.enabled left = (i.lead.working w).planted in
+    let wanted : has c.told.enabled (least left) ≡ true = f.wanted (least left) was in
+    and_from (in_session (λ s. is_leaving s.stage) c.told.session) (is_none c.told.step && (has c.told.enabled (least left) && not (has c.told.planted (least left))))
+    (session_is h (phase.Plant kept left) c.told.faults c.told.session (λ s. is_leaving s.stage) refl (i.lead.working w).session (λ s here late at. at))
+    (and_from (is_none c.told.step) (has c.told.enabled (least left) && not (has c.told.planted (least left))) (ap is_none (i.lead.working w).step)
+    (and_from (has c.told.enabled (least left)) (not (has c.told.planted (least left))) wanted
+    (ap not (f.others (least left) ∙ and_right (has c.told.enabled (least left)) (not (has left (least left))) (ap not was))))))
 
 close_allowed : (c : Configuration) (h : ℕ) (kept : Kept) → Sound c → c.phase h ≡ phase.Close kept → is_allowed (act.Close (record { 0 = h })) c.told ≡ true
 close_allowed c h kept s e =
     let i : Mine c h (phase.Close kept) = mine c h (phase.Close kept) s e refl in
     allowed_from (act.Close (record { 0 = h })) c.told (lt-ltb h c.told.harts i.below)
-      (λ w. and_from (in_session (λ s. is_of h s && is_leaving s.stage) c.told.session) (is_none c.told.step && (c.told.planted == c.told.enabled))
-        (session_is h (phase.Close kept) c.told.faults c.told.session (λ s. is_of h s && is_leaving s.stage) refl (i.lead.working w).session
-          (λ s here late at. and_from (is_of h s) (is_leaving s.stage) (of_h h s here) at))
-        (and_from (is_none c.told.step) (c.told.planted == c.told.enabled) (ap is_none (i.lead.working w).step)
-          (eq-eqb c.told.planted c.told.enabled (i.lead.working w).planted)))
+    (λ w. and_from (in_session (λ s. is_of h s && is_leaving s.stage) c.told.session) (is_none c.told.step && (c.told.planted == c.told.enabled))
+    (session_is h (phase.Close kept) c.told.faults c.told.session (λ s. is_of h s && is_leaving s.stage) refl (i.lead.working w).session
+    (λ s here late at. and_from (is_of h s) (is_leaving s.stage) (of_h h s here) at))
+    (and_from (is_none c.told.step) (c.told.planted == c.told.enabled) (ap is_none (i.lead.working w).step)
+    (eq-eqb c.told.planted c.told.enabled (i.lead.working w).planted)))
 
 -- in each phase that makes a call
 allowed_in : (c : Configuration) (h : ℕ) (p : Phase) → Sound c → h < c.told.harts → c.phase h ≡ p → is_transaction p ≡ true → is_allowed (act_of h p) c.told ≡ true
@@ -283,13 +284,14 @@ pub gate_is_bounded : GateIsBounded
 gate_is_bounded c s =
     let p : openings c.gate ≤ c.told.lines + bit (c.told.over && not (is_at_gate (lead_of c.master c.phase))) = s.lead.lines in
     elim (cases_Bool (is_at_gate (lead_of c.master c.phase))) [
-      inl shut ↦
-        (let q : openings c.gate ≤ c.told.lines + bit (c.told.over && false) = subst (λ x. openings c.gate ≤ c.told.lines + bit (c.told.over && not x)) shut p in
-         omega (arith, q, bit_and_false c.told.over, s.told.lines, s.lead.low))
-    | inr off ↦
-        (let even : c.gate % 2 ≡ 0 = s.lead.parity ∙ ap bit (open_is_even (lead_of c.master c.phase) off) in
-         let one : bit (c.told.over && not (is_at_gate (lead_of c.master c.phase))) ≤ 1 = bit_le (c.told.over && not (is_at_gate (lead_of c.master c.phase))) in
-         omega (arith, p, even, one, s.told.lines, s.lead.low)) ]
+      | inl shut ↦
+          (let q : openings c.gate ≤ c.told.lines + bit (c.told.over && false) = subst (λ x. openings c.gate ≤ c.told.lines + bit (c.told.over && not x)) shut p in
+          omega (arith, q, bit_and_false c.told.over, s.told.lines, s.lead.low))
+      | inr off ↦
+          (let even : c.gate % 2 ≡ 0 = s.lead.parity ∙ ap bit (open_is_even (lead_of c.master c.phase) off) in
+          let one : bit (c.told.over && not (is_at_gate (lead_of c.master c.phase))) ≤ 1 = bit_le (c.told.over && not (is_at_gate (lead_of c.master c.phase))) in
+          omega (arith, p, even, one, s.told.lines, s.lead.low))
+    ]
 
 -- the phase after the call
 given_phase : (c : Configuration) (h : ℕ) (p : Phase) (at : Place) (a : Answer) (after : Told) → holds at ≡ true → (transacts h p at a after c).phase h ≡ after_answer c.told.harts h p a
@@ -303,6 +305,6 @@ gone_trap_drops c h next s e m gone t =
     let acts : Acts (act.Check (record { 0 = h })) c.told t.answer t.after = subst (λ q. Acts (act_of h q) c.told t.answer t.after) e (t.honest m) in
     let none : is_some acts.does.0 ≡ false = acts.does.1.1.some ∙ and_right (not c.told.over) (has c.told.traps h) gone in
     ap (λ x. x.phase h) t.ticked
-      ∙ (ap (λ q. (tick_in q h t.answer t.after c).phase h) e
-      ∙ (given_phase c h phase.Own (c.place h) t.answer t.after (and_parts (is_transaction (c.phase h)) (holds (c.place h)) m).1
-      ∙ (ap (λ x. after_check (check_answer x)) acts.does.1.0 ∙ ap after_check none)))
+    ∙ (ap (λ q. (tick_in q h t.answer t.after c).phase h) e
+    ∙ (given_phase c h phase.Own (c.place h) t.answer t.after (and_parts (is_transaction (c.phase h)) (holds (c.place h)) m).1
+    ∙ (ap (λ x. after_check (check_answer x)) acts.does.1.0 ∙ ap after_check none)))

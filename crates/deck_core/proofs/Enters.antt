@@ -55,7 +55,8 @@ inside_gives c h from p b s e w n session held fits harts mask over lines sends 
       gate_grows = omega arith;
       marks = λ k ne. record {
         gathered = λ x. absurd (both_ways (counts b.harts p k) (n.counts b.harts k) ((and_parts (counts b.harts p k) (not (suc h == suc k)) x).0));
-        masked = λ x. or_right (suc h == suc k) (is_marked c.gate (c.phase k)) (mask k ne x) };
+        masked = λ x. or_right (suc h == suc k) (is_marked c.gate (c.phase k)) (mask k ne x);
+      };
       lead_fits = record {
         range = subst (λ x. KeepsInRange c.limit x (suc h) p) (sym harts) range;
         low = i.lead.low;
@@ -63,24 +64,27 @@ inside_gives c h from p b s e w n session held fits harts mask over lines sends 
         mask = λ x. absurd (both_ways (is_in_session p) x session);
         trap = λ x. absurd (both_ways (is_before_opening p) n.before x);
         lines =
-          (let g : openings c.gate ≤ c.told.lines + bit (c.told.over && false) =
-             subst (λ x. openings c.gate ≤ c.told.lines + bit (c.told.over && not x)) w.at_gate i.lead.lines in
-           omega (arith, g, bit_and_false c.told.over, lines));
+            (let g : openings c.gate ≤ c.told.lines + bit (c.told.over && false) =
+            subst (λ x. openings c.gate ≤ c.told.lines + bit (c.told.over && not x)) w.at_gate i.lead.lines in
+            omega (arith, g, bit_and_false c.told.over, lines));
         sends =
-          (let g : c.told.sends ≤ (c.told.harts - 1) * openings c.gate + (c.told.harts - 1) =
-             subst (λ x. c.told.sends ≤ (c.told.harts - 1) * openings c.gate + x) (w.called c.told.harts (suc h)) i.lead.sends in
-           subst (λ x. b.sends ≤ (b.harts - 1) * openings c.gate + x) (sym (n.within.called b.harts (suc h)))
-             (subst (λ x. b.sends ≤ (x - 1) * openings c.gate + (x - 1)) (sym harts)
-               (subst (λ x. x ≤ (c.told.harts - 1) * openings c.gate + (c.told.harts - 1)) (sym sends) g)));
-        working = working } })
-      fits held harts over
+            (let g : c.told.sends ≤ (c.told.harts - 1) * openings c.gate + (c.told.harts - 1) =
+            subst (λ x. c.told.sends ≤ (c.told.harts - 1) * openings c.gate + x) (w.called c.told.harts (suc h)) i.lead.sends in
+            subst (λ x. b.sends ≤ (b.harts - 1) * openings c.gate + x) (sym (n.within.called b.harts (suc h)))
+            (subst (λ x. b.sends ≤ (x - 1) * openings c.gate + (x - 1)) (sym harts)
+            (subst (λ x. x ≤ (c.told.harts - 1) * openings c.gate + (c.told.harts - 1)) (sym sends) g)));
+        working = working;
+      };
+    })
+    fits held harts over
 
 -- the harts in the mask other than the master are marked
 pub mask_marked : (c : Configuration) (h : ℕ) (from : Phase) (b : Told) → Mine c h from → b.mask ≡ c.told.mask → (k : ℕ) → (k ≡ h → ⊥) → has b.mask k ≡ true → is_marked c.gate (c.phase k) ≡ true
 mask_marked c h from b i same k ne x =
     elim (or_cases (suc h == suc k) (is_marked c.gate (c.phase k)) ((i.marks k).masked (ap (λ m. has m k) (sym same) ∙ x))) [
-      inl q ↦ absurd (ne (omega (arith, eqb-true (suc h) (suc k) q)))
-    | inr q ↦ q ]
+      | inl q ↦ absurd (ne (omega (arith, eqb-true (suc h) (suc k) q)))
+      | inr q ↦ q
+    ]
 
 pub pull_inside : (kept : Kept) (left : ℕ) → Inside (phase.Pull kept left)
 pull_inside kept left = record { within = record { masters = refl; own = refl; shut = refl; at_gate = refl; called = λ x y. refl }; number = λ g. tt; counts = λ x y. refl; before = refl }
@@ -123,7 +127,7 @@ ended_gives c h from p s e w n session held o range =
 pub sits : (h late faults : ℕ) (at : Stage) (lead : Phase) → late_of lead ≡ late → stage_fits (has faults h) lead at ≡ true → session_fits (suc h) lead faults (Some (record { master = record { 0 = h }; late = late; stage = at })) ≡ true
 sits h late faults at lead same fits =
     and_from ((suc h == suc h) && (late == late_of lead)) (stage_fits (has faults h) lead at)
-      (and_from (suc h == suc h) (late == late_of lead) (eq-eqb (suc h) (suc h) refl) (eq-eqb late (late_of lead) (sym same))) fits
+    (and_from (suc h == suc h) (late == late_of lead) (eq-eqb (suc h) (suc h) refl) (eq-eqb late (late_of lead) (sym same))) fits
 
 -- ---- Enter
 
@@ -133,12 +137,14 @@ opened_working m gate h kept b mask planted traps faults next plantable step sam
   session = sits h kept.late faults stage.Lines (phase.Lines kept) refl refl;
   planted = sym same ∙ eqb-true planted 0 z;
   step = step;
-  read = λ x. absurd (both_ways false refl x) }
+  read = λ x. absurd (both_ways false refl x);
+}
 opened_working m gate h kept b mask planted traps faults next plantable step same false z = record {
   session = sits h kept.late faults stage.Lines (phase.Pull kept planted) refl refl;
   planted = sym same;
   step = step;
-  read = λ x. absurd (both_ways false refl x) }
+  read = λ x. absurd (both_ways false refl x);
+}
 
 pub pulling_inside : (kept : Kept) (left : ℕ) (zero_left : Bool) → Inside (if zero_left then phase.Lines kept else phase.Pull kept left)
 pulling_inside kept left true = lines_inside kept
@@ -164,9 +170,9 @@ inside_marked c h kept false i w None t k ne x =
     let below : k < c.told.harts = has-below (all_but c.told.harts kept.late) c.told.harts k (all_but-lt c.told.harts kept.late small) x in
     let in_time : not (has kept.late k) ≡ true = sym (has-all_but_inside c.told.harts kept.late k below) ∙ x in
     (i.marks k).gathered
-      (and_from (nat_lt k c.told.harts && not (has kept.late k)) (not (suc h == suc k))
-        (and_from (nat_lt k c.told.harts) (not (has kept.late k)) (lt-ltb k c.told.harts below) in_time)
-        (ap not (ne_eqb (suc h) (suc k) (λ q. ne (omega (arith, q))))))
+    (and_from (nat_lt k c.told.harts && not (has kept.late k)) (not (suc h == suc k))
+    (and_from (nat_lt k c.told.harts) (not (has kept.late k)) (lt-ltb k c.told.harts below) in_time)
+    (ap not (ne_eqb (suc h) (suc k) (λ q. ne (omega (arith, q))))))
 
 -- there is no step word when a session opens
 pub enter_step : (kept : Kept) (reopens : Bool) (step next : Option ℕ) (plantable stepped : Bool) → StepFits step next plantable stepped (phase.Enter kept reopens) → step ≡ None
@@ -178,32 +184,33 @@ entered_in c h kept reopens after s e held w g fits =
     let z : Bool = c.told.planted == 0 in
     let planted : ℕ = c.told.planted in
     inside_gives c h (phase.Enter kept reopens) (pulling kept planted) after s e (enter_within kept reopens) (pulling_inside kept planted z) (pulling_session kept planted z) held fits
-      (ap (λ b. b.harts) g)
-      (λ k ne x. inside_marked c h kept reopens i w c.told.session refl k ne (ap (λ b. has b.mask k) (sym g) ∙ x))
-      (λ o. absurd (both_ways c.told.over w o))
-      (subst (λ b. c.told.lines ≤ b.lines) (sym g) (omega arith))
-      (ap (λ b. b.sends) g)
-      (pulling_range c.limit c.told.harts (suc h) kept planted i.lead.range s.told.planted z refl)
-      (λ x. subst (λ b. Working (suc h) c.gate (pulling kept planted) b) (sym g)
-        (opened_working (suc h) c.gate h kept c.told (mask_inside kept.late c.told c.told.session) planted after.traps after.faults after.next after.plantable
-          (enter_step kept reopens c.told.step c.told.next c.told.plantable c.told.stepped (i.lead.working w).step) refl z refl))
+    (ap (λ b. b.harts) g)
+    (λ k ne x. inside_marked c h kept reopens i w c.told.session refl k ne (ap (λ b. has b.mask k) (sym g) ∙ x))
+    (λ o. absurd (both_ways c.told.over w o))
+    (subst (λ b. c.told.lines ≤ b.lines) (sym g) (omega arith))
+    (ap (λ b. b.sends) g)
+    (pulling_range c.limit c.told.harts (suc h) kept planted i.lead.range s.told.planted z refl)
+    (λ x. subst (λ b. Working (suc h) c.gate (pulling kept planted) b) (sym g)
+    (opened_working (suc h) c.gate h kept c.told (mask_inside kept.late c.told c.told.session) planted after.traps after.faults after.next after.plantable
+    (enter_step kept reopens c.told.step c.told.next c.told.plantable c.told.stepped (i.lead.working w).step) refl z refl))
 
 entered_done : (c : Configuration) (h : ℕ) (kept : Kept) (reopens : Bool) (r : Entered) (after : Told) → Sound c → c.phase h ≡ phase.Enter kept reopens → holds (c.place h) ≡ true → EnterGives h kept.late c.told r after → IsTold after → Sound (gives h (after_enter kept r) after c)
 entered_done c h kept reopens r after s e held g fits =
     elim (cases_Bool c.told.over) [
-      inl o ↦
-        (let i : Mine c h (phase.Enter kept reopens) = mine c h (phase.Enter kept reopens) s e refl in
-         let q = g.ended o in
-         subst (λ x. Sound (gives h (after_enter kept x) after c)) (sym q.0)
+      | inl o ↦
+          (let i : Mine c h (phase.Enter kept reopens) = mine c h (phase.Enter kept reopens) s e refl in
+          let q = g.ended o in
+          subst (λ x. Sound (gives h (after_enter kept x) after c)) (sym q.0)
           (subst (λ b. Sound (gives h (phase.Close kept) b c)) (sym q.1)
-            (ended_gives c h (phase.Enter kept reopens) (phase.Close kept) s e (enter_within kept reopens) (close_inside kept) refl held o i.lead.range)))
-    | inr w ↦
-        (let q = g.working w in
-         subst (λ x. Sound (gives h (after_enter kept x) after c)) (sym q.0) (entered_in c h kept reopens after s e held w q.1 fits)) ]
+          (ended_gives c h (phase.Enter kept reopens) (phase.Close kept) s e (enter_within kept reopens) (close_inside kept) refl held o i.lead.range)))
+      | inr w ↦
+          (let q = g.working w in
+          subst (λ x. Sound (gives h (after_enter kept x) after c)) (sym q.0) (entered_in c h kept reopens after s e held w q.1 fits))
+    ]
 
 pub enter_keeps : EnterKeeps
 enter_keeps kept reopens c h a after s lt e honest = tick_at c h (phase.Enter kept reopens) a after e
-  (call_keeps c h (phase.Enter kept reopens) a after s e refl honest
+    (call_keeps c h (phase.Enter kept reopens) a after s e refl honest
     (λ held acts.
-      subst (λ x. Sound (gives h (after_enter kept (enter_answer x)) after c)) (sym acts.does.1.0)
-        (entered_done c h kept reopens acts.does.0 after s e held acts.does.1.1 acts.fits)))
+    subst (λ x. Sound (gives h (after_enter kept (enter_answer x)) after c)) (sym acts.does.1.0)
+    (entered_done c h kept reopens acts.does.0 after s e held acts.does.1.1 acts.fits)))

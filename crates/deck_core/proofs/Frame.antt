@@ -35,15 +35,17 @@ stays f h v e = record { here = e; others = λ k ne. refl }
 pub at_each : {A : Type 0} (P : A → ℕ → Type 0) (f : ℕ → A) (h : ℕ) (v : A) (g : ℕ → A) → Moves f h v g → P v h → ((k : ℕ) → (k ≡ h → ⊥) → P (f k) k) → (k : ℕ) → P (g k) k
 at_each P f h v g m here others k =
     elim (cases_eq k h) [
-      inl e ↦ subst (λ j. P (g j) j) (sym e) (subst (λ w. P w h) (sym m.here) here)
-    | inr ne ↦ subst (λ w. P w k) (sym (m.others k ne)) (others k ne) ]
+      | inl e ↦ subst (λ j. P (g j) j) (sym e) (subst (λ w. P w h) (sym m.here) here)
+      | inr ne ↦ subst (λ w. P w k) (sym (m.others k ne)) (others k ne)
+    ]
 
 -- the same of two functions
 pub at_each_2 : {A B : Type 0} (P : A → B → ℕ → Type 0) (f : ℕ → A) (f2 : ℕ → B) (h : ℕ) (v : A) (v2 : B) (g : ℕ → A) (g2 : ℕ → B) → Moves f h v g → Moves f2 h v2 g2 → P v v2 h → ((k : ℕ) → (k ≡ h → ⊥) → P (f k) (f2 k) k) → (k : ℕ) → P (g k) (g2 k) k
 at_each_2 P f f2 h v v2 g g2 m m2 here others k =
     elim (cases_eq k h) [
-      inl e ↦ subst (λ j. P (g j) (g2 j) j) (sym e) (subst (λ w. P (g h) w h) (sym m2.here) (subst (λ w. P w v2 h) (sym m.here) here))
-    | inr ne ↦ subst (λ w. P (g k) w k) (sym (m2.others k ne)) (subst (λ w. P w (f2 k) k) (sym (m.others k ne)) (others k ne)) ]
+      | inl e ↦ subst (λ j. P (g j) (g2 j) j) (sym e) (subst (λ w. P (g h) w h) (sym m2.here) (subst (λ w. P w v2 h) (sym m.here) here))
+      | inr ne ↦ subst (λ w. P (g k) w k) (sym (m2.others k ne)) (subst (λ w. P w (f2 k) k) (sym (m.others k ne)) (others k ne))
+    ]
 
 -- a master's phase names the master
 pub master_of : (c : Configuration) (h : ℕ) → Sound c → is_masters (c.phase h) ≡ true → c.master ≡ suc h
@@ -94,7 +96,8 @@ hart_stays gate gate2 master master2 over over2 p own k le o e f = record {
   own_word = f.own_word;
   finished = λ h. o (f.finished h);
   masters = f.masters ∙ e;
-  old_number = old_number_grows gate gate2 p le f.old_number }
+  old_number = old_number_grows gate gate2 p le f.old_number;
+}
 
 pub or_second : (x y : Bool) → x ≡ false → (x || y) ≡ true → y ≡ true
 or_second x y f e = ap (λ z. z || y) (sym f) ∙ e
@@ -109,10 +112,11 @@ given_back turn mask h places next lt t held m =
     let free : (k : ℕ) → (holder_of mask == suc k) ≡ false = λ k. ne_eqb (holder_of mask) (suc k) (λ e. omega (arith, e, holder_of-small mask lt)) in
     let holder : holder_of turn ≡ suc h = eqb-true (holder_of turn) (suc h) (sym (t h).holder ∙ held) in
     at_each (λ w k. TurnAt mask w k) places h place.Peek next m
-      (record { holder = sym (free h); seen = tt })
-      (λ k ne. record {
-        holder = (t k).holder ∙ (ne_eqb (holder_of turn) (suc k) (λ e. ne (omega (arith, e, holder))) ∙ sym (free k));
-        seen = (t k).seen })
+    (record { holder = sym (free h); seen = tt })
+    (λ k ne. record {
+      holder = (t k).holder ∙ (ne_eqb (holder_of turn) (suc k) (λ e. ne (omega (arith, e, holder))) ∙ sym (free k));
+      seen = (t k).seen;
+    })
 
 -- hart h moves to the phase p, the words and the bus change to these, and lead is then the master's phase
 pub record Step (c : Configuration) (h : ℕ) (p : Phase) (lead : Phase) (turn master gate : ℕ) (own : ℕ → ℕ) (phases : ℕ → Phase) (places : ℕ → Place) (b : Told) : Type 0 where
@@ -139,10 +143,11 @@ moved c h p lead turn master gate own phases places b s t = record {
   turn = t.turns;
   master = t.few;
   harts = at_each_2 (λ q o k. HartFits gate master b.over q o k) c.phase c.own h p (own_word p) phases own t.phase_moves t.own_moves t.here
-    (λ k ne. hart_stays c.gate gate c.master master c.told.over b.over (c.phase k) (c.own k) k t.gate_grows t.over_stays (t.same_master k ne) (s.harts k));
+      (λ k ne. hart_stays c.gate gate c.master master c.told.over b.over (c.phase k) (c.own k) k t.gate_grows t.over_stays (t.same_master k ne) (s.harts k));
   marks = subst (λ l. (k : ℕ) → MarkFits b.harts b.mask gate master l (phases k) k) (sym t.leads)
-    (at_each (λ q k. MarkFits b.harts b.mask gate master lead q k) c.phase h p phases t.phase_moves t.mark t.marks);
-  lead = subst (λ l. LeadFits c.limit master gate l b) (sym t.leads) t.lead_fits }
+      (at_each (λ q k. MarkFits b.harts b.mask gate master lead q k) c.phase h p phases t.phase_moves t.mark t.marks);
+  lead = subst (λ l. LeadFits c.limit master gate l b) (sym t.leads) t.lead_fits;
+}
 
 -- ---- a hart that isn't the master
 
@@ -171,8 +176,8 @@ other_step c h p turn own places b s o fits mask turns same_harts same_mask over
     let no : (c.master == suc h) ≡ false = sym (s.harts h).masters ∙ o.before in
     let leads : lead_of c.master (put c.phase h p) ≡ lead_of c.master c.phase = lead_other c.master c.phase h p (put c.phase h p) m (no_master c h s o.before) in
     let marks : (k : ℕ) → MarkFits b.harts b.mask c.gate c.master (lead_of c.master c.phase) (c.phase k) k =
-      λ k. subst (λ n. MarkFits n b.mask c.gate c.master (lead_of c.master c.phase) (c.phase k) k) (sym same_harts)
-        (subst (λ n. MarkFits c.told.harts n c.gate c.master (lead_of c.master c.phase) (c.phase k) k) (sym same_mask) (s.marks k)) in
+    λ k. subst (λ n. MarkFits n b.mask c.gate c.master (lead_of c.master c.phase) (c.phase k) k) (sym same_harts)
+    (subst (λ n. MarkFits c.told.harts n c.gate c.master (lead_of c.master c.phase) (c.phase k) k) (sym same_mask) (s.marks k)) in
     moved c h p (lead_of c.master c.phase) turn c.master c.gate own (put c.phase h p) places b s (record {
       told = fits;
       mask = mask;
@@ -187,14 +192,16 @@ other_step c h p turn own places b s o fits mask turns same_harts same_mask over
       leads = leads;
       mark = record {
         gathered = λ e. o.mark_stays
-          (counts_needs_master b.harts c.master c.phase h ((and_parts (counts b.harts (lead_of c.master c.phase) h) (not (c.master == suc h)) e).0))
-          ((marks h).gathered e);
+            (counts_needs_master b.harts c.master c.phase h ((and_parts (counts b.harts (lead_of c.master c.phase) h) (not (c.master == suc h)) e).0))
+            ((marks h).gathered e);
         masked = λ e.
-          let marked : is_marked c.gate (c.phase h) ≡ true = or_second (c.master == suc h) (is_marked c.gate (c.phase h)) no ((marks h).masked e) in
-          or_right (c.master == suc h) (is_marked c.gate p)
-            (o.mark_stays (mask_needs_master c h s (subst (λ n. has n h ≡ true) same_mask e)) marked) };
+            let marked : is_marked c.gate (c.phase h) ≡ true = or_second (c.master == suc h) (is_marked c.gate (c.phase h)) no ((marks h).masked e) in
+            or_right (c.master == suc h) (is_marked c.gate p)
+            (o.mark_stays (mask_needs_master c h s (subst (λ n. has n h ≡ true) same_mask e)) marked);
+      };
       marks = λ k ne. marks k;
-      lead_fits = lead })
+      lead_fits = lead;
+    })
 
 -- the same, where the turn and the bus stay
 pub other_moves : (c : Configuration) (h : ℕ) (p : Phase) (own : ℕ → ℕ) → Sound c → OtherStep c h p own c.told → Sound (record c { own = own; phase = put c.phase h p })
@@ -217,9 +224,10 @@ mine c h p s e m =
       master = master;
       below = omega (arith, master, s.master);
       lead = subst (λ l. LeadFits c.limit (suc h) c.gate l c.told) leads
-        (subst (λ n. LeadFits c.limit n c.gate (lead_of c.master c.phase) c.told) master s.lead);
+          (subst (λ n. LeadFits c.limit n c.gate (lead_of c.master c.phase) c.told) master s.lead);
       marks = λ k. subst (λ l. MarkFits c.told.harts c.told.mask c.gate (suc h) l (c.phase k) k) leads
-        (subst (λ n. MarkFits c.told.harts c.told.mask c.gate n (lead_of c.master c.phase) (c.phase k) k) master (s.marks k)) }
+          (subst (λ n. MarkFits c.told.harts c.told.mask c.gate n (lead_of c.master c.phase) (c.phase k) k) master (s.marks k));
+    }
 
 -- the master goes to another phase of a master
 pub record MasterStep (c : Configuration) (h : ℕ) (p : Phase) (gate : ℕ) (own : ℕ → ℕ) (b : Told) : Type 0 where
@@ -241,7 +249,8 @@ master_mark harts mask gate h lead p =
     let same : (suc h == suc h) ≡ true = eq-eqb (suc h) (suc h) refl in
     record {
       gathered = λ e. absurd (both_ways (not (suc h == suc h)) (ap not same) ((and_parts (counts harts lead h) (not (suc h == suc h)) e).1));
-      masked = λ e. or_left (suc h == suc h) (is_marked gate p) same }
+      masked = λ e. or_left (suc h == suc h) (is_marked gate p) same;
+    }
 
 pub master_step : (c : Configuration) (h : ℕ) (from p : Phase) (turn gate : ℕ) (own : ℕ → ℕ) (places : ℕ → Place) (b : Told) → Sound c → Mine c h from → MasterStep c h p gate own b → IsTold b → mask_of turn ≡ b.mask → ((k : ℕ) → TurnAt turn (places k) k) → b.harts ≡ c.told.harts → (c.told.over ≡ true → b.over ≡ true) → Sound (record c { turn = turn; gate = gate; own = own; phase = put c.phase h p; place = places; told = b })
 master_step c h from p turn gate own places b s i m fits mask turns same_harts over =
@@ -260,11 +269,13 @@ master_step c h from p turn gate own places b s i m fits mask turns same_harts o
         own_word = refl;
         finished = λ e. absurd (master_not_finished p m.next e);
         masters = m.next ∙ sym (eq-eqb c.master (suc h) i.master);
-        old_number = m.old_number };
+        old_number = m.old_number;
+      };
       leads = lead_here c.master (put c.phase h p) h i.master ∙ put_same c.phase h p;
       mark = subst (λ n. MarkFits b.harts b.mask gate n p p h) back (master_mark b.harts b.mask gate h p p);
       marks = λ k ne. subst (λ n. MarkFits b.harts b.mask gate n p (c.phase k) k) back (m.marks k ne);
-      lead_fits = subst (λ n. LeadFits c.limit n gate p b) back m.lead_fits })
+      lead_fits = subst (λ n. LeadFits c.limit n gate p b) back m.lead_fits;
+    })
 
 -- the same, where the turn and the bus stay
 pub master_moves : (c : Configuration) (h : ℕ) (from p : Phase) (gate : ℕ) (own : ℕ → ℕ) → Sound c → Mine c h from → MasterStep c h p gate own c.told → Sound (record c { gate = gate; own = own; phase = put c.phase h p })
@@ -274,14 +285,14 @@ master_moves c h from p gate own s i m = master_step c h from p c.turn gate own 
 pub master_gives : (c : Configuration) (h : ℕ) (from p : Phase) (b : Told) → Sound c → Mine c h from → MasterStep c h p c.gate c.own b → IsTold b → holds (c.place h) ≡ true → b.harts ≡ c.told.harts → (c.told.over ≡ true → b.over ≡ true) → Sound (record c { turn = b.mask; phase = put c.phase h p; place = put c.place h place.Peek; told = b })
 master_gives c h from p b s i m fits held same over =
     master_step c h from p b.mask c.gate c.own (put c.place h place.Peek) b s i m fits
-      (mask_of-small b.mask (mask_below b fits))
-      (given_back c.turn b.mask h c.place (put c.place h place.Peek) (mask_below b fits) s.turn held (put_moves c.place h place.Peek))
-      same over
+    (mask_of-small b.mask (mask_below b fits))
+    (given_back c.turn b.mask h c.place (put c.place h place.Peek) (mask_below b fits) s.turn held (put_moves c.place h place.Peek))
+    same over
 
 -- the same of a hart that isn't the master
 pub other_gives : (c : Configuration) (h : ℕ) (p : Phase) (b : Told) → Sound c → OtherStep c h p c.own b → IsTold b → holds (c.place h) ≡ true → b.harts ≡ c.told.harts → b.mask ≡ c.told.mask → (c.told.over ≡ true → b.over ≡ true) → LeadFits c.limit c.master c.gate (lead_of c.master c.phase) b → Sound (record c { turn = b.mask; phase = put c.phase h p; place = put c.place h place.Peek; told = b })
 other_gives c h p b s o fits held same same_mask over lead =
     other_step c h p b.mask c.own (put c.place h place.Peek) b s o fits
-      (mask_of-small b.mask (mask_below b fits))
-      (given_back c.turn b.mask h c.place (put c.place h place.Peek) (mask_below b fits) s.turn held (put_moves c.place h place.Peek))
-      same same_mask over lead
+    (mask_of-small b.mask (mask_below b fits))
+    (given_back c.turn b.mask h c.place (put c.place h place.Peek) (mask_below b fits) s.turn held (put_moves c.place h place.Peek))
+    same same_mask over lead

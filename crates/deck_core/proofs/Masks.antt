@@ -40,10 +40,11 @@ pub has-all_but_inside : (n m k : ℕ) → k < n → has (all_but n m) k ≡ not
 unfolding has all_but
 has-all_but_inside n m k p =
     elim (cases_eq (bit_at m k) 1) [
-      inl e ↦
-        ne_eqb _ 1 (λ f. omega (arith, e, f, bit_at_xor (2 ^ n - 1) m k, bit_at_ones n k p)) ∙ sym (ap not (eq-eqb (bit_at m k) 1 e))
-    | inr ne ↦
-        eq-eqb _ 1 (omega (arith, ne, bit_at_xor (2 ^ n - 1) m k, bit_at_ones n k p, bit_at-lt m k)) ∙ sym (ap not (ne_eqb (bit_at m k) 1 ne)) ]
+      | inl e ↦
+          ne_eqb _ 1 (λ f. omega (arith, e, f, bit_at_xor (2 ^ n - 1) m k, bit_at_ones n k p)) ∙ sym (ap not (eq-eqb (bit_at m k) 1 e))
+      | inr ne ↦
+          eq-eqb _ 1 (omega (arith, ne, bit_at_xor (2 ^ n - 1) m k, bit_at_ones n k p, bit_at-lt m k)) ∙ sym (ap not (ne_eqb (bit_at m k) 1 ne))
+    ]
 
 pub has-all_but_outside : (n m k : ℕ) → m < 2 ^ n → n ≤ k → has (all_but n m) k ≡ false
 unfolding has all_but
@@ -88,15 +89,17 @@ holder_of-small m lt = omega arith
 pub pow_32 : (n : ℕ) → n ≤ 32 → 2 ^ n ≤ 2 ^ 32
 pow_32 n le =
     elim (cases_lt n 32) [
-      inl p ↦ omega (arith, pow_below n 32 p)
-    | inr p ↦ let e : n ≡ 32 = omega arith in subst (λ k. 2 ^ k ≤ 2 ^ 32) (sym e) (omega arith) ]
+      | inl p ↦ omega (arith, pow_below n 32 p)
+      | inr p ↦ let e : n ≡ 32 = omega arith in subst (λ k. 2 ^ k ≤ 2 ^ 32) (sym e) (omega arith)
+    ]
 
 -- two masks with the same numbers are one
 pub same_mask : (a b : ℕ) → ((k : ℕ) → has a k ≡ has b k) → a ≡ b
 unfolding has
 same_mask a b same = same_from_bits a b (λ k.
     elim (cases_eq (bit_at a k) 1) [
-      inl e ↦ e ∙ sym (eqb-true (bit_at b k) 1 (sym (same k) ∙ eq-eqb (bit_at a k) 1 e))
-    | inr ne ↦
-        let ne2 : bit_at b k ≡ 1 → ⊥ = eqb-false (bit_at b k) 1 (sym (same k) ∙ ne_eqb (bit_at a k) 1 ne) in
-        omega (arith, ne, ne2, bit_at-lt a k, bit_at-lt b k) ])
+      | inl e ↦ e ∙ sym (eqb-true (bit_at b k) 1 (sym (same k) ∙ eq-eqb (bit_at a k) 1 e))
+      | inr ne ↦
+          let ne2 : bit_at b k ≡ 1 → ⊥ = eqb-false (bit_at b k) 1 (sym (same k) ∙ ne_eqb (bit_at a k) 1 ne) in
+          omega (arith, ne, ne2, bit_at-lt a k, bit_at-lt b k)
+    ])

@@ -20,10 +20,12 @@ opening_is_sound limit b l t o = record {
     own_word = refl;
     finished = λ e. absurd (both_ways false refl e);
     masters = sym (ne_eqb 0 (suc k) (λ e. omega arith));
-    old_number = tt };
+    old_number = tt;
+  };
   marks = λ k. record {
     gathered = λ e. absurd (both_ways false refl e);
-    masked = λ e. absurd (both_ways (has b.mask k) (ap (λ m. has m k) o.mask ∙ has-zero k) e) };
+    masked = λ e. absurd (both_ways (has b.mask k) (ap (λ m. has m k) o.mask ∙ has-zero k) e);
+  };
   lead = record {
     range = tt;
     low = omega arith;
@@ -36,4 +38,7 @@ opening_is_sound limit b l t o = record {
       session = ap (λ x. session_fits 0 phase.Run b.faults x) o.session;
       planted = o.planted ∙ sym o.enabled;
       step = o.step;
-      read = λ e. absurd (both_ways false refl e) } } }
+      read = λ e. absurd (both_ways false refl e);
+    };
+  };
+}

@@ -51,19 +51,22 @@ lead_stays limit m gate lead b h over traps faults next plantable apart o same_t
   parity = f.parity;
   mask = f.mask;
   trap = λ x. elim (or_cases b.over (at_master m (has b.traps)) (f.trap x)) [
-      inl t ↦ or_left over (at_master m (has traps)) (o t)
-    | inr t ↦ or_right over (at_master m (has traps)) (at_master_stays m h b.traps traps apart same_traps ∙ t) ];
+    | inl t ↦ or_left over (at_master m (has traps)) (o t)
+    | inr t ↦ or_right over (at_master m (has traps)) (at_master_stays m h b.traps traps apart same_traps ∙ t)
+  ];
   lines = omega (arith, f.lines, bit_grows b.over over (not (is_at_gate lead)) o);
   sends = f.sends;
   working = λ w.
-    let g : Working m gate lead b = f.working (false_from_ne_true b.over (λ t. both_ways over w (o t))) in
-    let out : in_session (is_of h) b.session ≡ false = not_of m h lead b.faults b.session apart g.session in
-    record {
-      session = faults_stay m h lead b.faults faults b.session apart same_faults g.session;
-      planted = g.planted;
-      step = subst (λ n. StepFits b.step n plantable b.stepped lead) (sym (same_next out))
-        (subst (λ t. StepFits b.step b.next t b.stepped lead) (sym (same_plantable out)) g.step);
-      read = g.read } }
+      let g : Working m gate lead b = f.working (false_from_ne_true b.over (λ t. both_ways over w (o t))) in
+      let out : in_session (is_of h) b.session ≡ false = not_of m h lead b.faults b.session apart g.session in
+      record {
+        session = faults_stay m h lead b.faults faults b.session apart same_faults g.session;
+        planted = g.planted;
+        step = subst (λ n. StepFits b.step n plantable b.stepped lead) (sym (same_next out))
+            (subst (λ t. StepFits b.step b.next t b.stepped lead) (sym (same_plantable out)) g.step);
+        read = g.read;
+      };
+}
 
 after_step_is_no_masters : (r : Turned) → is_masters (after_step r) ≡ false
 after_step_is_no_masters turned.Off = refl
@@ -101,20 +104,21 @@ pub stepped : (c : Configuration) (h : ℕ) (r : Turned) (b : Told) → Sound c 
 stepped c h r b s e held g fits =
     let apart : (c.master == suc h) ≡ false = sym (s.harts h).masters ∙ ap is_masters e in
     let lead : LeadFits c.limit c.master c.gate (lead_of c.master c.phase) b =
-      subst (λ x. LeadFits c.limit c.master c.gate (lead_of c.master c.phase) x) (sym g.told)
-        (lead_stays c.limit c.master c.gate (lead_of c.master c.phase) c.told h b.over b.traps b.faults b.next b.plantable apart g.stays_over g.traps g.faults g.next g.plantable s.lead) in
+    subst (λ x. LeadFits c.limit c.master c.gate (lead_of c.master c.phase) x) (sym g.told)
+    (lead_stays c.limit c.master c.gate (lead_of c.master c.phase) c.told h b.over b.traps b.faults b.next b.plantable apart g.stays_over g.traps g.faults g.next g.plantable s.lead) in
     other_gives c h (after_step r) b s (record {
-        before = ap is_masters e;
-        next = after_step_is_no_masters r;
-        finished = λ f. sym g.off ∙ after_step_finished r f;
-        old_number = after_step_has_no_number c.gate r;
-        own_moves = stays c.own h (own_word (after_step r)) (own_of c h phase.Run s e ∙ after_step_is_out r);
-        mark_stays = λ m. unmarked c.gate (c.phase h) phase.Run (after_step r) e refl })
-      fits held (ap (λ x. x.harts) g.told) (ap (λ x. x.mask) g.told) g.stays_over lead
+      before = ap is_masters e;
+      next = after_step_is_no_masters r;
+      finished = λ f. sym g.off ∙ after_step_finished r f;
+      old_number = after_step_has_no_number c.gate r;
+      own_moves = stays c.own h (own_word (after_step r)) (own_of c h phase.Run s e ∙ after_step_is_out r);
+      mark_stays = λ m. unmarked c.gate (c.phase h) phase.Run (after_step r) e refl;
+    })
+    fits held (ap (λ x. x.harts) g.told) (ap (λ x. x.mask) g.told) g.stays_over lead
 
 pub run_keeps : RunKeeps
 run_keeps c h a after s lt e honest = tick_at c h phase.Run a after e
-  (call_keeps c h phase.Run a after s e refl honest
+    (call_keeps c h phase.Run a after s e refl honest
     (λ held acts.
-      subst (λ x. Sound (gives h (after_step (step_answer x)) after c)) (sym acts.does.1.0)
-        (stepped c h acts.does.0 after s e held acts.does.1.1 acts.fits)))
+    subst (λ x. Sound (gives h (after_step (step_answer x)) after c)) (sym acts.does.1.0)
+    (stepped c h acts.does.0 after s e held acts.does.1.1 acts.fits)))

@@ -43,8 +43,8 @@ session_goes m lead lead2 faults None inside late fits f = absurd (both_ways (no
 session_goes m lead lead2 faults (Some sitting) inside late fits f =
     let p = and_parts ((m == suc sitting.master.0) && (sitting.late == late_of lead)) (stage_fits (has faults sitting.master.0) lead sitting.stage) f in
     and_from ((m == suc sitting.master.0) && (sitting.late == late_of lead2)) (stage_fits (has faults sitting.master.0) lead2 sitting.stage)
-      (ap (λ x. (m == suc sitting.master.0) && (sitting.late == x)) late ∙ p.0)
-      (fits (has faults sitting.master.0) sitting.stage p.1)
+    (ap (λ x. (m == suc sitting.master.0) && (sitting.late == x)) late ∙ p.0)
+    (fits (has faults sitting.master.0) sitting.stage p.1)
 
 -- the session in another stage fits another phase
 pub session_in : (m : ℕ) (lead lead2 : Phase) (faults faults2 : ℕ) (session : Option Sitting) (to : Stage) → is_in_session lead ≡ true → late_of lead2 ≡ late_of lead → ((f : Bool) → stage_fits f lead2 to ≡ true) → session_fits m lead faults session ≡ true → session_fits m lead2 faults2 (in_stage to session) ≡ true
@@ -52,8 +52,8 @@ session_in m lead lead2 faults faults2 None to inside late fits f = absurd (both
 session_in m lead lead2 faults faults2 (Some sitting) to inside late fits f =
     let p = and_parts ((m == suc sitting.master.0) && (sitting.late == late_of lead)) (stage_fits (has faults sitting.master.0) lead sitting.stage) f in
     and_from ((m == suc sitting.master.0) && (sitting.late == late_of lead2)) (stage_fits (has faults2 sitting.master.0) lead2 to)
-      (ap (λ x. (m == suc sitting.master.0) && (sitting.late == x)) late ∙ p.0)
-      (fits (has faults2 sitting.master.0))
+    (ap (λ x. (m == suc sitting.master.0) && (sitting.late == x)) late ∙ p.0)
+    (fits (has faults2 sitting.master.0))
 
 -- ---- Pull
 
@@ -62,12 +62,14 @@ pull_working m gate kept left rest b w r true z = record {
   session = session_goes m (phase.Pull kept left) (phase.Lines kept) b.faults b.session refl refl (λ f at x. x) w.session;
   planted = ap (λ x. mask_without x (least left)) w.planted ∙ (r ∙ eqb-true rest 0 z);
   step = w.step;
-  read = λ x. absurd (both_ways false refl x) }
+  read = λ x. absurd (both_ways false refl x);
+}
 pull_working m gate kept left rest b w r false z = record {
   session = session_goes m (phase.Pull kept left) (phase.Pull kept rest) b.faults b.session refl refl (λ f at x. x) w.session;
   planted = ap (λ x. mask_without x (least left)) w.planted ∙ r;
   step = w.step;
-  read = λ x. absurd (both_ways false refl x) }
+  read = λ x. absurd (both_ways false refl x);
+}
 
 pull_done : (c : Configuration) (h : ℕ) (kept : Kept) (left : ℕ) (after : Told) → Sound c → c.phase h ≡ phase.Pull kept left → holds (c.place h) ≡ true → Changes c.told after (pulled (least left) c.told) → IsTold after → Sound (gives h (pulling kept (mask_without left (least left))) after c)
 pull_done c h kept left after s e held g fits =
@@ -77,16 +79,17 @@ pull_done c h kept left after s e held g fits =
     let w : Within (phase.Pull kept left) = (pull_inside kept left).within in
     let range : KeepsInRange c.limit c.told.harts (suc h) (pulling kept rest) = pulling_range c.limit c.told.harts (suc h) kept rest i.lead.range.0 (rest_below left i.lead.range.1) z refl in
     elim (cases_Bool c.told.over) [
-      inl o ↦ subst (λ b. Sound (gives h (pulling kept rest) b c)) (sym (g.ended o))
-        (ended_gives c h (phase.Pull kept left) (pulling kept rest) s e w (pulling_inside kept rest z) (pulling_session kept rest z) held o range)
-    | inr q ↦ subst (λ b. Sound (gives h (pulling kept rest) b c)) (sym (g.working q))
-        (inside_gives c h (phase.Pull kept left) (pulling kept rest) (pulled (least left) c.told) s e w (pulling_inside kept rest z) (pulling_session kept rest z) held
+      | inl o ↦ subst (λ b. Sound (gives h (pulling kept rest) b c)) (sym (g.ended o))
+          (ended_gives c h (phase.Pull kept left) (pulling kept rest) s e w (pulling_inside kept rest z) (pulling_session kept rest z) held o range)
+      | inr q ↦ subst (λ b. Sound (gives h (pulling kept rest) b c)) (sym (g.working q))
+          (inside_gives c h (phase.Pull kept left) (pulling kept rest) (pulled (least left) c.told) s e w (pulling_inside kept rest z) (pulling_session kept rest z) held
           (subst IsTold (g.working q) fits) refl (mask_marked c h (phase.Pull kept left) (pulled (least left) c.told) i refl) (λ o. o) (omega arith) refl range
-          (λ x. pull_working (suc h) c.gate kept left rest c.told (i.lead.working x) refl z refl)) ]
+          (λ x. pull_working (suc h) c.gate kept left rest c.told (i.lead.working x) refl z refl))
+    ]
 
 pub pull_keeps : PullKeeps
 pull_keeps kept left c h a after s lt e honest = tick_at c h (phase.Pull kept left) a after e
-  (call_keeps c h (phase.Pull kept left) a after s e refl honest
+    (call_keeps c h (phase.Pull kept left) a after s e refl honest
     (λ held acts. pull_done c h kept left after s e held acts.does.1 acts.fits))
 
 -- ---- planting
@@ -115,14 +118,17 @@ planting_from_none m gate kept planted enabled b none same step read session tru
   session = session (phase.Close kept) refl (λ f. refl) (λ f at x. x);
   planted = none ∙ sym (sym same ∙ eqb-true enabled 0 z);
   step = step;
-  read = λ x. read }
+  read = λ x. read;
+}
 planting_from_none m gate kept planted enabled b none same step read session false z = record {
   session = session (phase.Plant kept enabled) refl (λ f. refl) (λ f at x. x);
   planted = record {
     wanted = λ k x. ap (λ e. has e k) (sym same) ∙ x;
-    others = λ k. (ap (λ p. has p k) none ∙ has-zero k) ∙ sym (ap (λ e. has e k && not (has enabled k)) (sym same) ∙ and_not_self (has enabled k)) };
+    others = λ k. (ap (λ p. has p k) none ∙ has-zero k) ∙ sym (ap (λ e. has e k && not (has enabled k)) (sym same) ∙ and_not_self (has enabled k));
+  };
   step = step;
-  read = λ x. read }
+  read = λ x. read;
+}
 
 -- ---- Lines
 
@@ -131,61 +137,64 @@ line_gives : (c : Configuration) (h : ℕ) (kept : Kept) (p : Phase) (to : Stage
 line_gives c h kept p to after s e held w g fits inside session range working =
     let i : Mine c h (phase.Lines kept) = mine c h (phase.Lines kept) s e refl in
     inside_gives c h (phase.Lines kept) p after s e (lines_inside kept).within inside session held fits
-      (ap (λ b. b.harts) g)
-      (mask_marked c h (phase.Lines kept) after i (ap (λ b. b.mask) g))
-      (λ o. absurd (both_ways c.told.over w o))
-      (subst (λ b. c.told.lines ≤ b.lines) (sym g) (omega arith))
-      (ap (λ b. b.sends) g)
-      range
-      (λ x. subst (λ b. Working (suc h) c.gate p b) (sym g)
-        (working (i.lead.working w)
-          (let q : openings c.gate ≤ c.told.lines + bit (false && false) = subst (λ o. openings c.gate ≤ c.told.lines + bit (o && false)) w i.lead.lines in
-           omega (arith, q))))
+    (ap (λ b. b.harts) g)
+    (mask_marked c h (phase.Lines kept) after i (ap (λ b. b.mask) g))
+    (λ o. absurd (both_ways c.told.over w o))
+    (subst (λ b. c.told.lines ≤ b.lines) (sym g) (omega arith))
+    (ap (λ b. b.sends) g)
+    range
+    (λ x. subst (λ b. Working (suc h) c.gate p b) (sym g)
+    (working (i.lead.working w)
+    (let q : openings c.gate ≤ c.told.lines + bit (false && false) = subst (λ o. openings c.gate ≤ c.told.lines + bit (o && false)) w i.lead.lines in
+    omega (arith, q))))
 
 line_stays : (c : Configuration) (h : ℕ) (kept : Kept) (after : Told) → Sound c → c.phase h ≡ phase.Lines kept → holds (c.place h) ≡ true → c.told.over ≡ false → after ≡ line_read stage.Lines c.told after → IsTold after → Sound (gives h (phase.Lines kept) after c)
 line_stays c h kept after s e held w g fits =
     let i : Mine c h (phase.Lines kept) = mine c h (phase.Lines kept) s e refl in
     line_gives c h kept (phase.Lines kept) stage.Lines after s e held w g fits (lines_inside kept) refl i.lead.range
-      (λ f read. record {
-        session = session_in (suc h) (phase.Lines kept) (phase.Lines kept) c.told.faults after.faults c.told.session stage.Lines refl refl (λ x. refl) f.session;
-        planted = f.planted;
-        step = f.step;
-        read = λ x. absurd (both_ways false refl x) })
+    (λ f read. record {
+      session = session_in (suc h) (phase.Lines kept) (phase.Lines kept) c.told.faults after.faults c.told.session stage.Lines refl refl (λ x. refl) f.session;
+      planted = f.planted;
+      step = f.step;
+      read = λ x. absurd (both_ways false refl x);
+    })
 
 line_passes : (c : Configuration) (h : ℕ) (kept : Kept) (at : Option ℕ) (again : Bool) (after : Told) → Sound c → c.phase h ≡ phase.Lines kept → holds (c.place h) ≡ true → c.told.over ≡ false → after ≡ line_read (stage.Pass again) c.told after → IsStepAddress at after → IsTold after → Sound (gives h (passing kept at) after c)
 line_passes c h kept None again after s e held w g step fits =
     let i : Mine c h (phase.Lines kept) = mine c h (phase.Lines kept) s e refl in
     line_gives c h kept (phase.PassStep kept false) (stage.Pass again) after s e held w g fits (pass_step_inside kept false) refl i.lead.range
-      (λ f read. record {
-        session = session_in (suc h) (phase.Lines kept) (phase.PassStep kept false) c.told.faults after.faults c.told.session (stage.Pass again) refl refl (λ x. refl) f.session;
-        planted = f.planted;
-        step = (f.step, step);
-        read = λ x. read })
+    (λ f read. record {
+      session = session_in (suc h) (phase.Lines kept) (phase.PassStep kept false) c.told.faults after.faults c.told.session (stage.Pass again) refl refl (λ x. refl) f.session;
+      planted = f.planted;
+      step = (f.step, step);
+      read = λ x. read;
+    })
 line_passes c h kept (Some at) again after s e held w g step fits =
     let i : Mine c h (phase.Lines kept) = mine c h (phase.Lines kept) s e refl in
     line_gives c h kept (phase.PlantStep kept at) (stage.Pass again) after s e held w g fits (plant_step_inside kept at) refl i.lead.range
-      (λ f read. record {
-        session = session_in (suc h) (phase.Lines kept) (phase.PlantStep kept at) c.told.faults after.faults c.told.session (stage.Pass again) refl refl (λ x. refl) f.session;
-        planted = f.planted;
-        step = record { free = f.step; at_next = step.0; text = step.1; first = refl };
-        read = λ x. read })
+    (λ f read. record {
+      session = session_in (suc h) (phase.Lines kept) (phase.PlantStep kept at) c.told.faults after.faults c.told.session (stage.Pass again) refl refl (λ x. refl) f.session;
+      planted = f.planted;
+      step = record { free = f.step; at_next = step.0; text = step.1; first = refl };
+      read = λ x. read;
+    })
 
 line_frees : (c : Configuration) (h : ℕ) (kept : Kept) (enabled : ℕ) (after : Told) → Sound c → c.phase h ≡ phase.Lines kept → holds (c.place h) ≡ true → c.told.over ≡ false → after ≡ line_read stage.Leaving c.told after → enabled ≡ after.enabled → IsTold after → Sound (gives h (planting kept enabled) after c)
 line_frees c h kept enabled after s e held w g same fits =
     let i : Mine c h (phase.Lines kept) = mine c h (phase.Lines kept) s e refl in
     let z : Bool = enabled == 0 in
     line_gives c h kept (planting kept enabled) stage.Leaving after s e held w g fits (planting_inside kept enabled z) (planting_session kept enabled z)
-      (planting_range c.limit c.told.harts (suc h) kept enabled i.lead.range (subst (λ x. x < 2 ^ 16) (sym same) fits.enabled) z refl)
-      (λ f read. planting_from_none (suc h) c.gate kept 0 enabled (line_read stage.Leaving c.told after) f.planted same f.step read
-        (λ lead late fit more. session_in (suc h) (phase.Lines kept) lead c.told.faults after.faults c.told.session stage.Leaving refl late fit f.session) z refl)
+    (planting_range c.limit c.told.harts (suc h) kept enabled i.lead.range (subst (λ x. x < 2 ^ 16) (sym same) fits.enabled) z refl)
+    (λ f read. planting_from_none (suc h) c.gate kept 0 enabled (line_read stage.Leaving c.told after) f.planted same f.step read
+    (λ lead late fit more. session_in (suc h) (phase.Lines kept) lead c.told.faults after.faults c.told.session stage.Leaving refl late fit f.session) z refl)
 
 -- no line was left, or the line met want of memory: an ending stands
 line_ends : (c : Configuration) (h : ℕ) (kept : Kept) (after : Told) → Sound c → c.phase h ≡ phase.Lines kept → holds (c.place h) ≡ true → IsTold after → Lost c.told after → Sound (gives h (phase.Close kept) after c)
 line_ends c h kept after s e held fits g =
     let i : Mine c h (phase.Lines kept) = mine c h (phase.Lines kept) s e refl in
     inside_gives c h (phase.Lines kept) (phase.Close kept) after s e (lines_inside kept).within (close_inside kept) refl held fits
-      g.harts (mask_marked c h (phase.Lines kept) after i g.mask) (λ o. g.over) (omega (arith, g.lines)) g.sends i.lead.range
-      (ended (suc h) c.gate (phase.Close kept) after g.over)
+    g.harts (mask_marked c h (phase.Lines kept) after i g.mask) (λ o. g.over) (omega (arith, g.lines)) g.sends i.lead.range
+    (ended (suc h) c.gate (phase.Close kept) after g.over)
 
 line_leaves : (c : Configuration) (h : ℕ) (kept : Kept) (r : Lined) (after : Told) → Sound c → c.phase h ≡ phase.Lines kept → holds (c.place h) ≡ true → c.told.over ≡ false → LineLeaves c.told r after → IsTold after → Sound (gives h (after_line kept r) after c)
 line_leaves c h kept lined.Stay after s e held w g fits = line_stays c h kept after s e held w g fits
@@ -198,20 +207,21 @@ line_leaves c h kept lined.Lost after s e held w g fits = line_ends c h kept aft
 lines_done : (c : Configuration) (h : ℕ) (kept : Kept) (r : Lined) (after : Told) → Sound c → c.phase h ≡ phase.Lines kept → holds (c.place h) ≡ true → LineGives c.told r after → IsTold after → Sound (gives h (after_line kept r) after c)
 lines_done c h kept r after s e held g fits =
     elim (cases_Bool c.told.over) [
-      inl o ↦
-        (let i : Mine c h (phase.Lines kept) = mine c h (phase.Lines kept) s e refl in
-         let q = g.ended o in
-         subst (λ x. Sound (gives h (after_line kept x) after c)) (sym q.0)
+      | inl o ↦
+          (let i : Mine c h (phase.Lines kept) = mine c h (phase.Lines kept) s e refl in
+          let q = g.ended o in
+          subst (λ x. Sound (gives h (after_line kept x) after c)) (sym q.0)
           (subst (λ b. Sound (gives h (phase.Close kept) b c)) (sym q.1)
-            (ended_gives c h (phase.Lines kept) (phase.Close kept) s e (lines_inside kept).within (close_inside kept) refl held o i.lead.range)))
-    | inr w ↦ line_leaves c h kept r after s e held w (g.working w) fits ]
+          (ended_gives c h (phase.Lines kept) (phase.Close kept) s e (lines_inside kept).within (close_inside kept) refl held o i.lead.range)))
+      | inr w ↦ line_leaves c h kept r after s e held w (g.working w) fits
+    ]
 
 pub lines_keeps : LinesKeeps
 lines_keeps kept c h a after s lt e honest = tick_at c h (phase.Lines kept) a after e
-  (call_keeps c h (phase.Lines kept) a after s e refl honest
+    (call_keeps c h (phase.Lines kept) a after s e refl honest
     (λ held acts.
-      subst (λ x. Sound (gives h (after_line kept (line_answer x)) after c)) (sym acts.does.1.0)
-        (lines_done c h kept acts.does.0 after s e held acts.does.1.1 acts.fits)))
+    subst (λ x. Sound (gives h (after_line kept (line_answer x)) after c)) (sym acts.does.1.0)
+    (lines_done c h kept acts.does.0 after s e held acts.does.1.1 acts.fits)))
 
 -- ---- PlantStep
 
@@ -220,21 +230,23 @@ plant_step_done c h kept at after s e held g fits =
     let i : Mine c h (phase.PlantStep kept at) = mine c h (phase.PlantStep kept at) s e refl in
     let w : Within (phase.PlantStep kept at) = (plant_step_inside kept at).within in
     elim (cases_Bool c.told.over) [
-      inl o ↦ subst (λ b. Sound (gives h (phase.PassStep kept true) b c)) (sym (g.ended o))
-        (ended_gives c h (phase.PlantStep kept at) (phase.PassStep kept true) s e w (pass_step_inside kept true) refl held o i.lead.range)
-    | inr q ↦ subst (λ b. Sound (gives h (phase.PassStep kept true) b c)) (sym (g.working q))
-        (inside_gives c h (phase.PlantStep kept at) (phase.PassStep kept true) (step_planted at c.told) s e w (pass_step_inside kept true) refl held
+      | inl o ↦ subst (λ b. Sound (gives h (phase.PassStep kept true) b c)) (sym (g.ended o))
+          (ended_gives c h (phase.PlantStep kept at) (phase.PassStep kept true) s e w (pass_step_inside kept true) refl held o i.lead.range)
+      | inr q ↦ subst (λ b. Sound (gives h (phase.PassStep kept true) b c)) (sym (g.working q))
+          (inside_gives c h (phase.PlantStep kept at) (phase.PassStep kept true) (step_planted at c.told) s e w (pass_step_inside kept true) refl held
           (subst IsTold (g.working q) fits) refl (mask_marked c h (phase.PlantStep kept at) (step_planted at c.told) i refl) (λ o. o) (omega arith) refl i.lead.range
           (λ x. let f : Working (suc h) c.gate (phase.PlantStep kept at) c.told = i.lead.working x in
-            record {
-              session = session_goes (suc h) (phase.PlantStep kept at) (phase.PassStep kept true) c.told.faults c.told.session refl refl (λ b y z. z) f.session;
-              planted = f.planted;
-              step = record { stands = refl; at_next = sym f.step.at_next; text = f.step.text };
-              read = f.read })) ]
+          record {
+            session = session_goes (suc h) (phase.PlantStep kept at) (phase.PassStep kept true) c.told.faults c.told.session refl refl (λ b y z. z) f.session;
+            planted = f.planted;
+            step = record { stands = refl; at_next = sym f.step.at_next; text = f.step.text };
+            read = f.read;
+          }))
+    ]
 
 pub plant_step_keeps : PlantStepKeeps
 plant_step_keeps kept at c h a after s lt e honest = tick_at c h (phase.PlantStep kept at) a after e
-  (call_keeps c h (phase.PlantStep kept at) a after s e refl honest
+    (call_keeps c h (phase.PlantStep kept at) a after s e refl honest
     (λ held acts. plant_step_done c h kept at after s e held acts.does.1 acts.fits))
 
 -- ---- PassStep
@@ -255,8 +267,8 @@ faulting_session h lead lead2 faults (Some sitting) inside late faulting fits f 
     let eq : h ≡ sitting.master.0 = omega (arith, same) in
     let t : has faults sitting.master.0 ≡ true = ap (has faults) (sym eq) ∙ faulting in
     and_from ((suc h == suc sitting.master.0) && (sitting.late == late_of lead2)) (stage_fits (has faults sitting.master.0) lead2 sitting.stage)
-      (ap (λ x. (suc h == suc sitting.master.0) && (sitting.late == x)) late ∙ p.0)
-      (subst (λ b. stage_fits b lead2 sitting.stage ≡ true) (sym t) (fits sitting.stage (subst (λ b. stage_fits b lead sitting.stage ≡ true) t p.1)))
+    (ap (λ x. (suc h == suc sitting.master.0) && (sitting.late == x)) late ∙ p.0)
+    (subst (λ b. stage_fits b lead2 sitting.stage ≡ true) (sym t) (fits sitting.stage (subst (λ b. stage_fits b lead sitting.stage ≡ true) t p.1)))
 
 pass_comes_back : (at : Stage) → is_pass at ≡ true → comes_back true at ≡ true
 pass_comes_back stage.Lines x = x
@@ -269,68 +281,73 @@ pass_gives : (c : Configuration) (h : ℕ) (kept : Kept) (planted : Bool) (p : P
 pass_gives c h kept planted p b s e held w fits inside session range harts mask lines sends working =
     let i : Mine c h (phase.PassStep kept planted) = mine c h (phase.PassStep kept planted) s e refl in
     inside_gives c h (phase.PassStep kept planted) p b s e (pass_step_inside kept planted).within inside session held fits harts
-      (mask_marked c h (phase.PassStep kept planted) b i mask) (λ o. absurd (both_ways c.told.over w o)) (omega (arith, lines)) sends range
-      (λ x. working (i.lead.working w))
+    (mask_marked c h (phase.PassStep kept planted) b i mask) (λ o. absurd (both_ways c.told.over w o)) (omega (arith, lines)) sends range
+    (λ x. working (i.lead.working w))
 
 pass_faults : (c : Configuration) (h : ℕ) (kept : Kept) (planted : Bool) → Sound c → c.phase h ≡ phase.PassStep kept planted → holds (c.place h) ≡ true → c.told.over ≡ false → has c.told.faults h ≡ true → Sound (gives h (after_pass kept planted passed.Faulted) c.told c)
 pass_faults c h kept true s e held w t =
     let i : Mine c h (phase.PassStep kept true) = mine c h (phase.PassStep kept true) s e refl in
     pass_gives c h kept true (phase.PullStep kept follow.Enter) c.told s e held w s.told (pull_step_inside kept follow.Enter) refl (i.lead.range, tt) refl refl refl refl
-      (λ f. record {
-        session = faulting_session h (phase.PassStep kept true) (phase.PullStep kept follow.Enter) c.told.faults c.told.session refl refl t pass_comes_back f.session;
-        planted = (f.planted, tt);
-        step = pass_step_some c.told.step c.told.next c.told.plantable c.told.stepped kept f.step;
-        read = f.read })
+    (λ f. record {
+      session = faulting_session h (phase.PassStep kept true) (phase.PullStep kept follow.Enter) c.told.faults c.told.session refl refl t pass_comes_back f.session;
+      planted = (f.planted, tt);
+      step = pass_step_some c.told.step c.told.next c.told.plantable c.told.stepped kept f.step;
+      read = f.read;
+    })
 pass_faults c h kept false s e held w t =
     let i : Mine c h (phase.PassStep kept false) = mine c h (phase.PassStep kept false) s e refl in
     pass_gives c h kept false (phase.Enter kept true) c.told s e held w s.told (enter_inside kept) refl i.lead.range refl refl refl refl
-      (λ f. record {
-        session = faulting_session h (phase.PassStep kept false) (phase.Enter kept true) c.told.faults c.told.session refl refl t pass_comes_back f.session;
-        planted = f.planted;
-        step = pass_step_none c.told.step c.told.next c.told.plantable c.told.stepped kept f.step;
-        read = f.read })
+    (λ f. record {
+      session = faulting_session h (phase.PassStep kept false) (phase.Enter kept true) c.told.faults c.told.session refl refl t pass_comes_back f.session;
+      planted = f.planted;
+      step = pass_step_none c.told.step c.told.next c.told.plantable c.told.stepped kept f.step;
+      read = f.read;
+    })
 
 pass_backs : (c : Configuration) (h : ℕ) (kept : Kept) (planted : Bool) (after : Told) → Sound c → c.phase h ≡ phase.PassStep kept planted → holds (c.place h) ≡ true → c.told.over ≡ false → after ≡ executed stage.Back c.told after → IsTold after → Sound (gives h (after_pass kept planted passed.Back) after c)
 pass_backs c h kept true after s e held w g fits =
     let i : Mine c h (phase.PassStep kept true) = mine c h (phase.PassStep kept true) s e refl in
     pass_gives c h kept true (phase.PullStep kept follow.Enter) after s e held w fits (pull_step_inside kept follow.Enter) refl (i.lead.range, tt)
-      (ap (λ b. b.harts) g) (ap (λ b. b.mask) g) (ap (λ b. b.lines) g) (ap (λ b. b.sends) g)
-      (λ f. subst (λ b. Working (suc h) c.gate (phase.PullStep kept follow.Enter) b) (sym g) (record {
-        session = session_in (suc h) (phase.PassStep kept true) (phase.PullStep kept follow.Enter) c.told.faults after.faults c.told.session stage.Back refl refl (λ x. refl) f.session;
-        planted = (f.planted, tt);
-        step = pass_step_some c.told.step c.told.next c.told.plantable c.told.stepped kept f.step;
-        read = f.read }))
+    (ap (λ b. b.harts) g) (ap (λ b. b.mask) g) (ap (λ b. b.lines) g) (ap (λ b. b.sends) g)
+    (λ f. subst (λ b. Working (suc h) c.gate (phase.PullStep kept follow.Enter) b) (sym g) (record {
+      session = session_in (suc h) (phase.PassStep kept true) (phase.PullStep kept follow.Enter) c.told.faults after.faults c.told.session stage.Back refl refl (λ x. refl) f.session;
+      planted = (f.planted, tt);
+      step = pass_step_some c.told.step c.told.next c.told.plantable c.told.stepped kept f.step;
+      read = f.read;
+    }))
 pass_backs c h kept false after s e held w g fits =
     let i : Mine c h (phase.PassStep kept false) = mine c h (phase.PassStep kept false) s e refl in
     pass_gives c h kept false (phase.Enter kept true) after s e held w fits (enter_inside kept) refl i.lead.range
-      (ap (λ b. b.harts) g) (ap (λ b. b.mask) g) (ap (λ b. b.lines) g) (ap (λ b. b.sends) g)
-      (λ f. subst (λ b. Working (suc h) c.gate (phase.Enter kept true) b) (sym g) (record {
-        session = session_in (suc h) (phase.PassStep kept false) (phase.Enter kept true) c.told.faults after.faults c.told.session stage.Back refl refl (λ x. refl) f.session;
-        planted = f.planted;
-        step = pass_step_none c.told.step c.told.next c.told.plantable c.told.stepped kept f.step;
-        read = f.read }))
+    (ap (λ b. b.harts) g) (ap (λ b. b.mask) g) (ap (λ b. b.lines) g) (ap (λ b. b.sends) g)
+    (λ f. subst (λ b. Working (suc h) c.gate (phase.Enter kept true) b) (sym g) (record {
+      session = session_in (suc h) (phase.PassStep kept false) (phase.Enter kept true) c.told.faults after.faults c.told.session stage.Back refl refl (λ x. refl) f.session;
+      planted = f.planted;
+      step = pass_step_none c.told.step c.told.next c.told.plantable c.told.stepped kept f.step;
+      read = f.read;
+    }))
 
 pass_frees : (c : Configuration) (h : ℕ) (kept : Kept) (planted : Bool) (enabled : ℕ) (after : Told) → Sound c → c.phase h ≡ phase.PassStep kept planted → holds (c.place h) ≡ true → c.told.over ≡ false → enabled ≡ c.told.enabled → after ≡ executed stage.Leaving c.told after → IsTold after → Sound (gives h (after_pass kept planted (passed.Free enabled)) after c)
 pass_frees c h kept true enabled after s e held w same g fits =
     let i : Mine c h (phase.PassStep kept true) = mine c h (phase.PassStep kept true) s e refl in
     pass_gives c h kept true (phase.PullStep kept (follow.Plant enabled)) after s e held w fits (pull_step_inside kept (follow.Plant enabled)) refl
-      (i.lead.range, subst (λ x. x < 2 ^ 16) (sym same) s.told.enabled)
-      (ap (λ b. b.harts) g) (ap (λ b. b.mask) g) (ap (λ b. b.lines) g) (ap (λ b. b.sends) g)
-      (λ f. subst (λ b. Working (suc h) c.gate (phase.PullStep kept (follow.Plant enabled)) b) (sym g) (record {
-        session = session_in (suc h) (phase.PassStep kept true) (phase.PullStep kept (follow.Plant enabled)) c.told.faults after.faults c.told.session stage.Leaving refl refl (λ x. refl) f.session;
-        planted = (f.planted, same);
-        step = pass_step_some c.told.step c.told.next c.told.plantable c.told.stepped kept f.step;
-        read = f.read }))
+    (i.lead.range, subst (λ x. x < 2 ^ 16) (sym same) s.told.enabled)
+    (ap (λ b. b.harts) g) (ap (λ b. b.mask) g) (ap (λ b. b.lines) g) (ap (λ b. b.sends) g)
+    (λ f. subst (λ b. Working (suc h) c.gate (phase.PullStep kept (follow.Plant enabled)) b) (sym g) (record {
+      session = session_in (suc h) (phase.PassStep kept true) (phase.PullStep kept (follow.Plant enabled)) c.told.faults after.faults c.told.session stage.Leaving refl refl (λ x. refl) f.session;
+      planted = (f.planted, same);
+      step = pass_step_some c.told.step c.told.next c.told.plantable c.told.stepped kept f.step;
+      read = f.read;
+    }))
 pass_frees c h kept false enabled after s e held w same g fits =
     let i : Mine c h (phase.PassStep kept false) = mine c h (phase.PassStep kept false) s e refl in
     let z : Bool = enabled == 0 in
     pass_gives c h kept false (planting kept enabled) after s e held w fits (planting_inside kept enabled z) (planting_session kept enabled z)
-      (planting_range c.limit c.told.harts (suc h) kept enabled i.lead.range (subst (λ x. x < 2 ^ 16) (sym same) s.told.enabled) z refl)
-      (ap (λ b. b.harts) g) (ap (λ b. b.mask) g) (ap (λ b. b.lines) g) (ap (λ b. b.sends) g)
-      (λ f. subst (λ b. Working (suc h) c.gate (planting kept enabled) b) (sym g)
-        (planting_from_none (suc h) c.gate kept 0 enabled (executed stage.Leaving c.told after) f.planted same
-          (pass_step_none c.told.step c.told.next c.told.plantable c.told.stepped kept f.step) (f.read refl)
-          (λ lead late fit more. session_in (suc h) (phase.PassStep kept false) lead c.told.faults after.faults c.told.session stage.Leaving refl late fit f.session) z refl))
+    (planting_range c.limit c.told.harts (suc h) kept enabled i.lead.range (subst (λ x. x < 2 ^ 16) (sym same) s.told.enabled) z refl)
+    (ap (λ b. b.harts) g) (ap (λ b. b.mask) g) (ap (λ b. b.lines) g) (ap (λ b. b.sends) g)
+    (λ f. subst (λ b. Working (suc h) c.gate (planting kept enabled) b) (sym g)
+    (planting_from_none (suc h) c.gate kept 0 enabled (executed stage.Leaving c.told after) f.planted same
+    (pass_step_none c.told.step c.told.next c.told.plantable c.told.stepped kept f.step) (f.read refl)
+    (λ lead late fit more. session_in (suc h) (phase.PassStep kept false) lead c.told.faults after.faults c.told.session stage.Leaving refl late fit f.session) z refl))
 
 pass_leaves : (c : Configuration) (h : ℕ) (kept : Kept) (planted : Bool) (r : Passed) (after : Told) → Sound c → c.phase h ≡ phase.PassStep kept planted → holds (c.place h) ≡ true → c.told.over ≡ false → PassLeaves h c.told r after → IsTold after → Sound (gives h (after_pass kept planted r) after c)
 pass_leaves c h kept planted passed.Faulted after s e held w g fits =
@@ -350,18 +367,19 @@ pass_ended c h kept false s e held o =
 pass_done : (c : Configuration) (h : ℕ) (kept : Kept) (planted : Bool) (r : Passed) (after : Told) → Sound c → c.phase h ≡ phase.PassStep kept planted → holds (c.place h) ≡ true → PassGives h c.told r after → IsTold after → Sound (gives h (after_pass kept planted r) after c)
 pass_done c h kept planted r after s e held g fits =
     elim (cases_Bool c.told.over) [
-      inl o ↦
-        (let q = g.ended o in
-         subst (λ x. Sound (gives h (after_pass kept planted x) after c)) (sym q.0)
+      | inl o ↦
+          (let q = g.ended o in
+          subst (λ x. Sound (gives h (after_pass kept planted x) after c)) (sym q.0)
           (subst (λ b. Sound (gives h (after_pass kept planted (passed.Free 0)) b c)) (sym q.1) (pass_ended c h kept planted s e held o)))
-    | inr w ↦ pass_leaves c h kept planted r after s e held w (g.working w) fits ]
+      | inr w ↦ pass_leaves c h kept planted r after s e held w (g.working w) fits
+    ]
 
 pub pass_step_keeps : PassStepKeeps
 pass_step_keeps kept planted c h a after s lt e honest = tick_at c h (phase.PassStep kept planted) a after e
-  (call_keeps c h (phase.PassStep kept planted) a after s e refl honest
+    (call_keeps c h (phase.PassStep kept planted) a after s e refl honest
     (λ held acts.
-      subst (λ x. Sound (gives h (after_pass kept planted (pass_answer x)) after c)) (sym acts.does.1.0)
-        (pass_done c h kept planted acts.does.0 after s e held acts.does.1.1 acts.fits)))
+    subst (λ x. Sound (gives h (after_pass kept planted (pass_answer x)) after c)) (sym acts.does.1.0)
+    (pass_done c h kept planted acts.does.0 after s e held acts.does.1.1 acts.fits)))
 
 -- ---- PullStep
 
@@ -383,11 +401,12 @@ pulled_working m gate kept follow.Enter b f = record {
   session = session_goes m (phase.PullStep kept follow.Enter) (phase.Enter kept true) b.faults b.session refl refl (λ x y z. z) f.session;
   planted = f.planted.0;
   step = refl;
-  read = f.read }
+  read = f.read;
+}
 pulled_working m gate kept (follow.Plant left) b f =
     planting_from_none m gate kept 0 left (step_pulled b) f.planted.0 f.planted.1 refl (f.read refl)
-      (λ lead late fit more. session_goes m (phase.PullStep kept (follow.Plant left)) lead b.faults b.session refl late more f.session)
-      (left == 0) refl
+    (λ lead late fit more. session_goes m (phase.PullStep kept (follow.Plant left)) lead b.faults b.session refl late more f.session)
+    (left == 0) refl
 
 pull_step_done : (c : Configuration) (h : ℕ) (kept : Kept) (follows : Then) (after : Told) → Sound c → c.phase h ≡ phase.PullStep kept follows → holds (c.place h) ≡ true → Changes c.told after (step_pulled c.told) → IsTold after → Sound (gives h (after_pull_step kept follows) after c)
 pull_step_done c h kept follows after s e held g fits =
@@ -395,16 +414,17 @@ pull_step_done c h kept follows after s e held g fits =
     let w : Within (phase.PullStep kept follows) = (pull_step_inside kept follows).within in
     let range : KeepsInRange c.limit c.told.harts (suc h) (after_pull_step kept follows) = pulled_range c.limit c.told.harts (suc h) kept follows i.lead.range in
     elim (cases_Bool c.told.over) [
-      inl o ↦ subst (λ b. Sound (gives h (after_pull_step kept follows) b c)) (sym (g.ended o))
-        (ended_gives c h (phase.PullStep kept follows) (after_pull_step kept follows) s e w (pulled_inside kept follows) (pulled_session kept follows) held o range)
-    | inr q ↦ subst (λ b. Sound (gives h (after_pull_step kept follows) b c)) (sym (g.working q))
-        (inside_gives c h (phase.PullStep kept follows) (after_pull_step kept follows) (step_pulled c.told) s e w (pulled_inside kept follows) (pulled_session kept follows) held
+      | inl o ↦ subst (λ b. Sound (gives h (after_pull_step kept follows) b c)) (sym (g.ended o))
+          (ended_gives c h (phase.PullStep kept follows) (after_pull_step kept follows) s e w (pulled_inside kept follows) (pulled_session kept follows) held o range)
+      | inr q ↦ subst (λ b. Sound (gives h (after_pull_step kept follows) b c)) (sym (g.working q))
+          (inside_gives c h (phase.PullStep kept follows) (after_pull_step kept follows) (step_pulled c.told) s e w (pulled_inside kept follows) (pulled_session kept follows) held
           (subst IsTold (g.working q) fits) refl (mask_marked c h (phase.PullStep kept follows) (step_pulled c.told) i refl) (λ o. o) (omega arith) refl range
-          (λ x. pulled_working (suc h) c.gate kept follows c.told (i.lead.working x))) ]
+          (λ x. pulled_working (suc h) c.gate kept follows c.told (i.lead.working x)))
+    ]
 
 pub pull_step_keeps : PullStepKeeps
 pull_step_keeps kept follows c h a after s lt e honest = tick_at c h (phase.PullStep kept follows) a after e
-  (call_keeps c h (phase.PullStep kept follows) a after s e refl honest
+    (call_keeps c h (phase.PullStep kept follows) a after s e refl honest
     (λ held acts. pull_step_done c h kept follows after s e held acts.does.1 acts.fits))
 
 -- ---- Plant
@@ -416,12 +436,15 @@ planting_on planted enabled left f g =
     let was : has left i ≡ true = has-least left f.some f.places in
     record {
       wanted = λ k x. elim (cases_eq k i) [
-          inl q ↦ absurd (both_ways (has (mask_without left i) i) (has-without_same left i was) (subst (λ j. has (mask_without left i) j ≡ true) q x))
-        | inr ne ↦ g.wanted k (sym (has-without_other left i k ne) ∙ x) ];
+        | inl q ↦ absurd (both_ways (has (mask_without left i) i) (has-without_same left i was) (subst (λ j. has (mask_without left i) j ≡ true) q x))
+        | inr ne ↦ g.wanted k (sym (has-without_other left i k ne) ∙ x)
+      ];
       others = λ k. elim (cases_eq k i) [
-          inl q ↦ subst (λ j. has (mask_with planted i) j ≡ (has enabled j && not (has (mask_without left i) j))) (sym q)
+        | inl q ↦ subst (λ j. has (mask_with planted i) j ≡ (has enabled j && not (has (mask_without left i) j))) (sym q)
             (has-with_same planted i ∙ sym (and_from (has enabled i) (not (has (mask_without left i) i)) (g.wanted i was) (ap not (has-without_same left i was))))
-        | inr ne ↦ has-with_other planted i k ne ∙ (g.others k ∙ ap (λ x. has enabled k && not x) (sym (has-without_other left i k ne))) ] }
+        | inr ne ↦ has-with_other planted i k ne ∙ (g.others k ∙ ap (λ x. has enabled k && not x) (sym (has-without_other left i k ne)))
+      ];
+    }
 
 and_true : (x : Bool) → (x && not false) ≡ x
 and_true true = refl
@@ -434,14 +457,16 @@ plant_working m gate kept left rest b l w r true z =
     record {
       session = session_goes m (phase.Plant kept left) (phase.Close kept) b.faults b.session refl refl (λ f at x. x) w.session;
       planted = same_mask (mask_with b.planted (least left)) b.enabled
-        (λ k. on.others k ∙ (ap (λ x. has b.enabled k && not x) (ap (λ x. has x k) none ∙ has-zero k) ∙ and_true (has b.enabled k)));
+          (λ k. on.others k ∙ (ap (λ x. has b.enabled k && not x) (ap (λ x. has x k) none ∙ has-zero k) ∙ and_true (has b.enabled k)));
       step = w.step;
-      read = w.read }
+      read = w.read;
+    }
 plant_working m gate kept left rest b l w r false z = record {
   session = session_goes m (phase.Plant kept left) (phase.Plant kept rest) b.faults b.session refl refl (λ f at x. x) w.session;
   planted = subst (λ x. IsPlanting (mask_with b.planted (least left)) b.enabled x) r (planting_on b.planted b.enabled left l w.planted);
   step = w.step;
-  read = w.read }
+  read = w.read;
+}
 
 plant_done : (c : Configuration) (h : ℕ) (kept : Kept) (left : ℕ) (after : Told) → Sound c → c.phase h ≡ phase.Plant kept left → holds (c.place h) ≡ true → Changes c.told after (replanted (least left) c.told) → IsTold after → Sound (gives h (planting kept (mask_without left (least left))) after c)
 plant_done c h kept left after s e held g fits =
@@ -451,14 +476,15 @@ plant_done c h kept left after s e held g fits =
     let w : Within (phase.Plant kept left) = (plant_inside kept left).within in
     let range : KeepsInRange c.limit c.told.harts (suc h) (planting kept rest) = planting_range c.limit c.told.harts (suc h) kept rest i.lead.range.0 (rest_below left i.lead.range.1) z refl in
     elim (cases_Bool c.told.over) [
-      inl o ↦ subst (λ b. Sound (gives h (planting kept rest) b c)) (sym (g.ended o))
-        (ended_gives c h (phase.Plant kept left) (planting kept rest) s e w (planting_inside kept rest z) (planting_session kept rest z) held o range)
-    | inr q ↦ subst (λ b. Sound (gives h (planting kept rest) b c)) (sym (g.working q))
-        (inside_gives c h (phase.Plant kept left) (planting kept rest) (replanted (least left) c.told) s e w (planting_inside kept rest z) (planting_session kept rest z) held
+      | inl o ↦ subst (λ b. Sound (gives h (planting kept rest) b c)) (sym (g.ended o))
+          (ended_gives c h (phase.Plant kept left) (planting kept rest) s e w (planting_inside kept rest z) (planting_session kept rest z) held o range)
+      | inr q ↦ subst (λ b. Sound (gives h (planting kept rest) b c)) (sym (g.working q))
+          (inside_gives c h (phase.Plant kept left) (planting kept rest) (replanted (least left) c.told) s e w (planting_inside kept rest z) (planting_session kept rest z) held
           (subst IsTold (g.working q) fits) refl (mask_marked c h (phase.Plant kept left) (replanted (least left) c.told) i refl) (λ o. o) (omega arith) refl range
-          (λ x. plant_working (suc h) c.gate kept left rest c.told i.lead.range.1 (i.lead.working x) refl z refl)) ]
+          (λ x. plant_working (suc h) c.gate kept left rest c.told i.lead.range.1 (i.lead.working x) refl z refl))
+    ]
 
 pub plant_keeps : PlantKeeps
 plant_keeps kept left c h a after s lt e honest = tick_at c h (phase.Plant kept left) a after e
-  (call_keeps c h (phase.Plant kept left) a after s e refl honest
+    (call_keeps c h (phase.Plant kept left) a after s e refl honest
     (λ held acts. plant_done c h kept left after s e held acts.does.1 acts.fits))

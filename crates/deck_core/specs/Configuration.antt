@@ -32,5 +32,12 @@ lead_of (suc h) phase = phase h
 -- the configuration before the first tick
 abbrev pub opening : ℕ → Told → Configuration
 opening limit told = record {
-  limit = limit; turn = 0; master = 0; gate = 2;
-  own = λ k. 0; phase = λ k. Run; place = λ k. Peek; told = told }
+  limit = limit;
+  turn = 0;
+  master = 0;
+  gate = 2;
+  own = λ k. 0;
+  phase = λ k. Run;
+  place = λ k. Peek;
+  told = told;
+}

@@ -147,7 +147,11 @@ abbrev pub opened : ℕ → ℕ → Told → Told → Told
 opened h late b after = record b {
   mask = mask_inside late b b.session;
   session = Some (record { master = record { 0 = h }; late = late; stage = stage.Lines });
-  traps = after.traps; faults = after.faults; next = after.next; plantable = after.plantable }
+  traps = after.traps;
+  faults = after.faults;
+  next = after.next;
+  plantable = after.plantable;
+}
 
 -- `enter` answers Off exactly where an ending stands
 abbrev pub EnterGives : ℕ → ℕ → Told → Entered → Told → Type 0
@@ -157,8 +161,15 @@ EnterGives h late b answer after =
 -- a line was read, and left the session in this stage; it may have changed which places are enabled
 abbrev pub line_read : Stage → Told → Told → Told
 line_read to b after = record b {
-  session = in_stage to b.session; lines = suc b.lines; stepped = false; enabled = after.enabled;
-  traps = after.traps; faults = after.faults; next = after.next; plantable = after.plantable }
+  session = in_stage to b.session;
+  lines = suc b.lines;
+  stepped = false;
+  enabled = after.enabled;
+  traps = after.traps;
+  faults = after.faults;
+  next = after.next;
+  plantable = after.plantable;
+}
 
 -- the step address: the next address, where that is a text word other than the pc
 abbrev pub IsStepAddress : Option ℕ → Told → Type 0
@@ -188,7 +199,11 @@ LineGives b answer after = Gives b.over ((answer ≡ lined.Ended) × (after ≡ 
 abbrev pub executed : Stage → Told → Told → Told
 executed to b after = record b {
   session = in_stage to b.session;
-  traps = after.traps; faults = after.faults; next = after.next; plantable = after.plantable }
+  traps = after.traps;
+  faults = after.faults;
+  next = after.next;
+  plantable = after.plantable;
+}
 
 -- what that instruction leaves, by the answer: Faulted exactly where it faults, else Back where the session opens again
 abbrev pub PassLeaves : ℕ → Told → Passed → Told → Type 0

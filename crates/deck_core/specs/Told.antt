@@ -28,9 +28,21 @@ pub record Told : Type 0 where
 -- the same from the notes
 abbrev pub told_of : ℕ → ℕ → Notes → Told
 told_of harts mask notes = record {
-  harts = harts; mask = mask; planted = notes.planted; enabled = notes.enabled; step = notes.step;
-  session = notes.session; lines = notes.lines; sends = notes.sends; stepped = notes.stepped; over = notes.over;
-  traps = notes.traps; faults = notes.faults; next = notes.next; plantable = notes.plantable }
+  harts = harts;
+  mask = mask;
+  planted = notes.planted;
+  enabled = notes.enabled;
+  step = notes.step;
+  session = notes.session;
+  lines = notes.lines;
+  sends = notes.sends;
+  stepped = notes.stepped;
+  over = notes.over;
+  traps = notes.traps;
+  faults = notes.faults;
+  next = notes.next;
+  plantable = notes.plantable;
+}
 
 -- what holds of every bus: 1 to 32 harts, a mask that names harts only, 16 places, at most 4,096 lines
 pub record IsTold (b : Told) : Type 0 where

@@ -2,11 +2,21 @@
 #![tactic(auto)]
 
 mod act;
+mod facts;
 mod laws;
 mod notes;
 mod phase;
 
 pub use act::{Act, Answer, Entered, Lined, Passed, Turned};
-pub use laws::opening_is_sound;
+pub use facts::{
+    call_is_allowed, gate_is_bounded, gone_trap_drops, one_master, opening_is_sound, runs_unmasked,
+    sessions_never_overlap,
+};
+pub use laws::{
+    called_keeps, close_keeps, drop_keeps, enter_keeps, every_plan_keeps, every_tick_keeps,
+    finished_keeps, free_keeps, gather_keeps, lines_keeps, mark_keeps, open_gate_keeps, own_keeps,
+    parked_keeps, pass_step_keeps, plant_keeps, plant_step_keeps, pull_keeps, pull_step_keeps,
+    run_keeps, send_keeps, shut_keeps, unmark_keeps, want_keeps, wish_keeps,
+};
 pub use notes::{Notes, Sitting, Stage};
 pub use phase::{Kept, Looks, Phase, Place, Then};
