@@ -11,3 +11,4 @@ pub mod Sessions
 pub mod Leaves
 pub mod Ticks
 pub mod Conditions
+pub mod Bits

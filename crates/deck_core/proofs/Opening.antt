@@ -10,9 +10,9 @@ use Rattle.deck_core.specs.declared.phase.Phase.TheVariants as phase
 use Rattle.deck_core.proofs.Masks.{has-zero, mask_of-small, holder_of-small}
 
 pub opening_is_sound : OpeningIsSound
-opening_is_sound limit b l t o = record {
+opening_is_sound limit b l o = record {
   limit = l;
-  told = t;
+  told = o.fits;
   mask = mask_of-small 0 (omega arith) ∙ sym o.mask;
   turn = λ k. record { holder = sym (ne_eqb _ _ (λ e. omega (arith, e, holder_of-small 0 (omega arith)))); seen = tt };
   master = omega arith;

@@ -2,7 +2,7 @@
 use Rattle.std.specs.Prelude.{◌≡◌, ℕ, ◌<◌, ◌≤◌, Bool, true, false, List, Some}
 use Rattle.deck_core.specs.Words.{has}
 use Rattle.deck_core.specs.Phases.{is_masters}
-use Rattle.deck_core.specs.Told.{Told, IsTold, IsOpening}
+use Rattle.deck_core.specs.Told.{Told, IsOpening}
 use Rattle.deck_core.specs.Configuration.{Configuration, opening}
 use Rattle.deck_core.specs.Contract.{Acts, is_allowed}
 use Rattle.deck_core.specs.Tick.{tick, act_of, makes_call, Ticks, TicksAll}
@@ -17,7 +17,7 @@ use Rattle.deck_core.specs.declared.act.Answer.{Answer}
 
 -- the opening configuration, over an opening bus, meets the invariant
 abbrev pub OpeningIsSound : Type 0
-OpeningIsSound = (limit : ℕ) (b : Told) → 0 < limit → IsTold b → IsOpening b → Sound (opening limit b)
+OpeningIsSound = (limit : ℕ) (b : Told) → 0 < limit → IsOpening b → Sound (opening limit b)
 
 -- each tick in this phase, by any of the harts and with any honest bus, keeps the invariant
 abbrev pub KeepsIn : Phase → Type 0

@@ -56,6 +56,7 @@ pub record IsTold (b : Told) : Type 0 where
 -- a bus on which nothing has happened: no session, nothing planted or enabled, no step word, no ending, no line read
 -- and no call sent
 pub record IsOpening (b : Told) : Type 0 where
+  pub fits : IsTold b
   pub mask : b.mask ≡ 0
   pub planted : b.planted ≡ 0
   pub enabled : b.enabled ≡ 0

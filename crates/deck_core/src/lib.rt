@@ -2,12 +2,17 @@
 #![tactic(auto)]
 
 mod act;
+mod bus;
+mod calls;
 mod facts;
 mod laws;
 mod notes;
 mod phase;
+mod steps;
 
 pub use act::{Act, Answer, Entered, Lined, Passed, Turned};
+pub use bus::Bus;
+pub use calls::call;
 pub use facts::{
     call_is_allowed, gate_is_bounded, gone_trap_drops, one_master, opening_is_sound, runs_unmasked,
     sessions_never_overlap,
@@ -20,3 +25,4 @@ pub use laws::{
 };
 pub use notes::{Notes, Sitting, Stage};
 pub use phase::{Kept, Looks, Phase, Place, Then};
+pub use steps::mask_has;
