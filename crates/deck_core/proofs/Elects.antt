@@ -134,16 +134,16 @@ late_others harts h gathered lt below =
 pub skipping_other : (h k : ℕ) → (suc h == suc (skipping h k)) ≡ false
 skipping_other h k =
     elim (cases_eq k h) [
-      | inl e ↦ subst (λ x. (suc h == suc x) ≡ false) (sym (cond-true (k == h) (suc k) k (eq-eqb k h e))) (ne_eqb (suc h) (suc (suc k)) (λ x. omega (arith, x, e)))
-      | inr ne ↦ subst (λ x. (suc h == suc x) ≡ false) (sym (cond-false (k == h) (suc k) k (ne_eqb k h ne))) (ne_eqb (suc h) (suc k) (λ x. ne (omega (arith, x))))
+      | inl e ↦ subst (λ x. (suc h == suc x) ≡ false) (sym (cond-true (k == h) (k + 1) k (eq-eqb k h e))) (ne_eqb (suc h) (suc (k + 1)) (λ x. omega (arith, x, e)))
+      | inr ne ↦ subst (λ x. (suc h == suc x) ≡ false) (sym (cond-false (k == h) (k + 1) k (ne_eqb k h ne))) (ne_eqb (suc h) (suc k) (λ x. ne (omega (arith, x))))
     ]
 
 -- a hart skipped is the master
-pub skipping_is : (h k : ℕ) → ((k ≡ h) × (skipping h k ≡ suc k)) ⊎ ((k ≡ h → ⊥) × (skipping h k ≡ k))
+pub skipping_is : (h k : ℕ) → ((k ≡ h) × (skipping h k ≡ k + 1)) ⊎ ((k ≡ h → ⊥) × (skipping h k ≡ k))
 skipping_is h k =
     elim (cases_eq k h) [
-      | inl e ↦ inl (e, cond-true (k == h) (suc k) k (eq-eqb k h e))
-      | inr ne ↦ inr (ne, cond-false (k == h) (suc k) k (ne_eqb k h ne))
+      | inl e ↦ inl (e, cond-true (k == h) (k + 1) k (eq-eqb k h e))
+      | inr ne ↦ inr (ne, cond-false (k == h) (k + 1) k (ne_eqb k h ne))
     ]
 
 -- how many were called before the call of a hart
@@ -228,25 +228,25 @@ shut_keeps c h a after s lt e honest = tick_at c h phase.Shut a after e (shut_in
 -- ---- Send
 
 -- the next call is one more
-called_next : (harts h to : ℕ) → (suc h == suc to) ≡ false → called harts (suc h) (phase.Send (skipping h (suc to))) ≡ suc (called harts (suc h) (phase.Send to))
+called_next : (harts h to : ℕ) → (suc h == suc to) ≡ false → called harts (suc h) (phase.Send (skipping h (to + 1))) ≡ suc (called harts (suc h) (phase.Send to))
 called_next harts h to other =
     let ne : h ≡ to → ⊥ = λ x. eqb-false (suc h) (suc to) other (ap suc x) in
-    elim (skipping_is h (suc to)) [
-      | inl a ↦ elim (called_is harts h (skipping h (suc to))) [
+    elim (skipping_is h (to + 1)) [
+      | inl a ↦ elim (called_is harts h (skipping h (to + 1))) [
         | inl b ↦ elim (called_is harts h to) [ inl d ↦ omega (arith, a.0, a.1, b.0, b.1, d.0, d.1, ne) | inr d ↦ omega (arith, a.0, a.1, b.0, b.1, d.0, d.1, ne) ]
         | inr b ↦ elim (called_is harts h to) [ inl d ↦ omega (arith, a.0, a.1, b.0, b.1, d.0, d.1, ne) | inr d ↦ omega (arith, a.0, a.1, b.0, b.1, d.0, d.1, ne) ]
       ]
-      | inr a ↦ elim (called_is harts h (skipping h (suc to))) [
+      | inr a ↦ elim (called_is harts h (skipping h (to + 1))) [
         | inl b ↦ elim (called_is harts h to) [ inl d ↦ omega (arith, a.0, a.1, b.0, b.1, d.0, d.1, ne) | inr d ↦ omega (arith, a.0, a.1, b.0, b.1, d.0, d.1, ne) ]
         | inr b ↦ elim (called_is harts h to) [ inl d ↦ omega (arith, a.0, a.1, b.0, b.1, d.0, d.1, ne) | inr d ↦ omega (arith, a.0, a.1, b.0, b.1, d.0, d.1, ne) ]
       ]
     ]
 
 -- after the last call all others were called
-called_last : (harts h to : ℕ) → h < harts → to < harts → (suc h == suc to) ≡ false → harts ≤ skipping h (suc to) → suc (called harts (suc h) (phase.Send to)) ≤ harts - 1
+called_last : (harts h to : ℕ) → h < harts → to < harts → (suc h == suc to) ≡ false → harts ≤ skipping h (to + 1) → suc (called harts (suc h) (phase.Send to)) ≤ harts - 1
 called_last harts h to lt lt2 other over =
     let ne : h ≡ to → ⊥ = λ x. eqb-false (suc h) (suc to) other (ap suc x) in
-    elim (skipping_is h (suc to)) [
+    elim (skipping_is h (to + 1)) [
       | inl a ↦ elim (called_is harts h to) [ inl d ↦ omega (arith, a.0, a.1, d.0, d.1, ne, over, lt, lt2) | inr d ↦ omega (arith, a.0, a.1, d.0, d.1, ne, over, lt, lt2) ]
       | inr a ↦ elim (called_is harts h to) [ inl d ↦ omega (arith, a.0, a.1, d.0, d.1, ne, over, lt, lt2) | inr d ↦ omega (arith, a.0, a.1, d.0, d.1, ne, over, lt, lt2) ]
     ]
@@ -269,17 +269,17 @@ send_lead limit h gate to p b sends f range one more shut at_gate inside unread 
   };
 }
 
-send_in : (c : Configuration) (h to : ℕ) (sends : ℕ) → Sound c → c.phase h ≡ phase.Send to → holds (c.place h) ≡ true → sends ≤ suc c.told.sends → IsTold (record c.told { sends = sends }) → (more : Bool) → nat_lt (skipping h (suc to)) c.told.harts ≡ more → Sound (gives h (if more then phase.Send (skipping h (suc to)) else first_look h) (record c.told { sends = sends }) c)
+send_in : (c : Configuration) (h to : ℕ) (sends : ℕ) → Sound c → c.phase h ≡ phase.Send to → holds (c.place h) ≡ true → sends ≤ suc c.told.sends → IsTold (record c.told { sends = sends }) → (more : Bool) → nat_lt (skipping h (to + 1)) c.told.harts ≡ more → Sound (gives h (if more then phase.Send (skipping h (to + 1)) else first_look h) (record c.told { sends = sends }) c)
 send_in c h to sends s e held one fits true t =
     let i : Mine c h (phase.Send to) = mine c h (phase.Send to) s e refl in
-    master_gives c h (phase.Send to) (phase.Send (skipping h (suc to))) (record c.told { sends = sends }) s i (record {
+    master_gives c h (phase.Send to) (phase.Send (skipping h (to + 1))) (record c.told { sends = sends }) s i (record {
       next = refl;
       old_number = tt;
       own_moves = stays c.own h 1 (own_of c h (phase.Send to) s e);
       gate_grows = omega arith;
-      marks = λ k ne. uncounted c.told.harts c.told.mask c.gate (suc h) k (phase.Send to) (phase.Send (skipping h (suc to))) (c.phase k) refl (i.marks k);
-      lead_fits = send_lead c.limit h c.gate to (phase.Send (skipping h (suc to))) c.told sends i.lead
-          (record { below = ltb-true (skipping h (suc to)) c.told.harts t; other = skipping_other h (suc to) }) one
+      marks = λ k ne. uncounted c.told.harts c.told.mask c.gate (suc h) k (phase.Send to) (phase.Send (skipping h (to + 1))) (c.phase k) refl (i.marks k);
+      lead_fits = send_lead c.limit h c.gate to (phase.Send (skipping h (to + 1))) c.told sends i.lead
+          (record { below = ltb-true (skipping h (to + 1)) c.told.harts t; other = skipping_other h (to + 1) }) one
           (omega (arith, called_next c.told.harts h to i.lead.range.other)) refl refl refl refl (λ x y z. z) (λ x y z w v. v);
     })
     fits held refl (λ o. o)
@@ -300,7 +300,7 @@ send_in c h to sends s e held one fits false t =
             gathered = pow_pos c.told.harts;
             others = λ k x. absurd (both_ways (has 0 k) (has-zero k) x);
           }) one
-          (called_last c.told.harts h to i.below i.lead.range.below i.lead.range.other (ltb-false (skipping h (suc to)) c.told.harts t)) refl refl refl refl (λ x y z. z) (λ x y z w v. v);
+          (called_last c.told.harts h to i.below i.lead.range.below i.lead.range.other (ltb-false (skipping h (to + 1)) c.told.harts t)) refl refl refl refl (λ x y z. z) (λ x y z w v. v);
     })
     fits held refl (λ o. o)
 
@@ -308,9 +308,9 @@ send_done : (c : Configuration) (h to : ℕ) (after : Told) → Sound c → c.ph
 send_done c h to after s e held g fits =
     elim (cases_Bool c.told.over) [
       | inl o ↦ subst (λ b. Sound (gives h (after_send c.told.harts h to) b c)) (sym (g.ended o))
-          (send_in c h to c.told.sends s e held (omega arith) s.told (nat_lt (skipping h (suc to)) c.told.harts) refl)
+          (send_in c h to c.told.sends s e held (omega arith) s.told (nat_lt (skipping h (to + 1)) c.told.harts) refl)
       | inr w ↦ subst (λ b. Sound (gives h (after_send c.told.harts h to) b c)) (sym (g.working w))
-          (send_in c h to (suc c.told.sends) s e held (omega arith) (subst IsTold (g.working w) fits) (nat_lt (skipping h (suc to)) c.told.harts) refl)
+          (send_in c h to (suc c.told.sends) s e held (omega arith) (subst IsTold (g.working w) fits) (nat_lt (skipping h (to + 1)) c.told.harts) refl)
     ]
 
 pub send_keeps : SendKeeps

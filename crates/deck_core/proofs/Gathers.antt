@@ -30,10 +30,10 @@ use Rattle.deck_core.proofs.Elects.{late_others}
 pub least_outside_finds : (count from mask k : ℕ) → least_outside count from mask ≡ Some k → (k < from + count) × (has mask k ≡ false)
 least_outside_finds zero from mask k e = absurd (cc)
 least_outside_finds (suc count) from mask k e =
-    let rest : Option ℕ = least_outside count (suc from) mask in
+    let rest : Option ℕ = least_outside count (from + 1) mask in
     elim (cases_Bool (has mask from)) [
       | inl t ↦
-          let r = least_outside_finds count (suc from) mask k (sym (cond-true (has mask from) rest (Some from) t) ∙ e) in
+          let r = least_outside_finds count (from + 1) mask k (sym (cond-true (has mask from) rest (Some from) t) ∙ e) in
           (omega (arith, r.0), r.1)
       | inr t ↦
           let same : Some from ≡ Some k = sym (cond-false (has mask from) rest (Some from) t) ∙ e in
@@ -170,17 +170,17 @@ round_in : (c : Configuration) (h : ℕ) (looks : Looks) (gathered : ℕ) → So
 round_in c h looks gathered s e g None t = gathers_no_more c h looks gathered s e g
 round_in c h looks gathered s e g (Some k) t =
     let found = least_outside_finds c.told.harts 0 (mask_with gathered h) k t in
-    let f : Bool → Configuration = λ b. enters h (if b then phase.Gather (record { rounds = suc looks.rounds; next = k; gathered = gathered }) else entering c.told.harts h gathered) c in
-    elim (cases_Bool (nat_lt (suc looks.rounds) c.limit)) [
+    let f : Bool → Configuration = λ b. enters h (if b then phase.Gather (record { rounds = looks.rounds + 1; next = k; gathered = gathered }) else entering c.told.harts h gathered) c in
+    elim (cases_Bool (nat_lt (looks.rounds + 1) c.limit)) [
       | inl more ↦ subst (λ b. Sound (f b)) (sym more)
-          (gathers_on c h looks (suc looks.rounds) k gathered s e g (ltb-true (suc looks.rounds) c.limit more) (omega (arith, found.0)) found.1)
+          (gathers_on c h looks (looks.rounds + 1) k gathered s e g (ltb-true (looks.rounds + 1) c.limit more) (omega (arith, found.0)) found.1)
       | inr done ↦ subst (λ b. Sound (f b)) (sym done) (gathers_no_more c h looks gathered s e g)
     ]
 
-look_in : (c : Configuration) (h : ℕ) (looks : Looks) (gathered : ℕ) → Sound c → c.phase h ≡ phase.Gather looks → Gathered c h gathered → (found : Option ℕ) → least_outside (c.told.harts - suc looks.next) (suc looks.next) (mask_with gathered h) ≡ found → Sound (enters h (looks_on c.limit c.told.harts h looks gathered found) c)
+look_in : (c : Configuration) (h : ℕ) (looks : Looks) (gathered : ℕ) → Sound c → c.phase h ≡ phase.Gather looks → Gathered c h gathered → (found : Option ℕ) → least_outside (c.told.harts - (looks.next + 1)) (looks.next + 1) (mask_with gathered h) ≡ found → Sound (enters h (looks_on c.limit c.told.harts h looks gathered found) c)
 look_in c h looks gathered s e g (Some k) t =
     let i : Mine c h (phase.Gather looks) = mine c h (phase.Gather looks) s e refl in
-    let found = least_outside_finds (c.told.harts - suc looks.next) (suc looks.next) (mask_with gathered h) k t in
+    let found = least_outside_finds (c.told.harts - (looks.next + 1)) (looks.next + 1) (mask_with gathered h) k t in
     gathers_on c h looks looks.rounds k gathered s e g i.lead.range.rounds (omega (arith, found.0, i.lead.range.next.below)) found.1
 look_in c h looks gathered s e g None t = round_in c h looks gathered s e g (least_outside c.told.harts 0 (mask_with gathered h)) refl
 
@@ -188,7 +188,7 @@ looked : (c : Configuration) (h : ℕ) (looks : Looks) → Sound c → c.phase h
 unfolding after_look
 looked c h looks s e seen t =
     look_in c h looks (gathered_after looks seen) s e (gathered_in c h looks s e seen t)
-    (least_outside (c.told.harts - suc looks.next) (suc looks.next) (mask_with (gathered_after looks seen) h)) refl
+    (least_outside (c.told.harts - (looks.next + 1)) (looks.next + 1) (mask_with (gathered_after looks seen) h)) refl
 
 pub gather_keeps : GatherKeeps
 gather_keeps looks c h a after s lt e honest = tick_at c h (phase.Gather looks) a after e (looked c h looks s e (mark_counts c looks.next) refl)

@@ -41,7 +41,7 @@ after_check trapped = if trapped then phase.Shut else phase.Drop
 
 -- this hart, or the one after it where it is the master
 abbrev pub skipping : ℕ → ℕ → ℕ
-skipping m k = if k == m then suc k else k
+skipping m k = if k == m then k + 1 else k
 
 -- the gathering begins
 abbrev pub first_look : ℕ → Phase
@@ -57,7 +57,7 @@ after_shut harts m = if nat_lt (skipping m 0) harts then phase.Send (skipping m 
 
 -- after a call: the next other hart is called, and after the last the gathering begins
 abbrev pub after_send : ℕ → ℕ → ℕ → Phase
-after_send harts m to = if nat_lt (skipping m (suc to)) harts then phase.Send (skipping m (suc to)) else first_look m
+after_send harts m to = if nat_lt (skipping m (to + 1)) harts then phase.Send (skipping m (to + 1)) else first_look m
 
 -- the gathered harts after a look at the next one
 abbrev pub gathered_after : Looks → Bool → ℕ
@@ -67,7 +67,7 @@ gathered_after looks counts = if counts then mask_with looks.gathered looks.next
 abbrev pub round_over : ℕ → ℕ → ℕ → Looks → ℕ → Option ℕ → Phase
 round_over limit harts m looks gathered None = entering harts m gathered
 round_over limit harts m looks gathered (Some k) =
-    if nat_lt (suc looks.rounds) limit then phase.Gather (record { rounds = suc looks.rounds; next = k; gathered = gathered })
+    if nat_lt (looks.rounds + 1) limit then phase.Gather (record { rounds = looks.rounds + 1; next = k; gathered = gathered })
     else entering harts m gathered
 
 -- the next look is at the least hart above that is neither m nor gathered; where there is none, the round is over
@@ -80,7 +80,7 @@ looks_on limit harts m looks gathered None =
 unfoldable pub after_look : ℕ → ℕ → ℕ → Looks → Bool → Phase
 after_look limit harts m looks counts =
     let gathered = gathered_after looks counts in
-    looks_on limit harts m looks gathered (least_outside (harts - suc looks.next) (suc looks.next) (mask_with gathered m))
+    looks_on limit harts m looks gathered (least_outside (harts - (looks.next + 1)) (looks.next + 1) (mask_with gathered m))
 
 -- the planted words are taken out, then lines are run
 abbrev pub pulling : Kept → ℕ → Phase

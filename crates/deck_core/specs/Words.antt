@@ -25,7 +25,7 @@ least mask = trailing_zeros w64 mask
 -- the least of so many numbers, from this one on, that the mask hasn't
 abbrev pub least_outside : ℕ → ℕ → ℕ → Option ℕ
 least_outside zero from mask = None
-least_outside (suc count) from mask = if has mask from then least_outside count (suc from) mask else Some from
+least_outside (suc count) from mask = if has mask from then least_outside count (from + 1) mask else Some from
 
 -- the turn word: the mask in bits 0 to 31, and above it the number of the hart that holds the turn, plus 1, or 0
 unfoldable pub turn_word : ℕ → ℕ → ℕ
