@@ -275,3 +275,18 @@ pub record Ticks (h : ℕ) (c : Configuration) (next : Configuration) : Type 0 w
 abbrev pub TicksAll : List ℕ → Configuration → Configuration → Type 0
 TicksAll [] c last = last ≡ c
 TicksAll (h ∷ plan) c last = (h < c.told.harts) × ((next : Configuration) × (Ticks h c next × TicksAll plan next last))
+
+-- ---- what the functions of a phase ask for
+
+-- what a phase keeps is in range for the phase after it: a hart that is called is one of the harts, and a place is left
+abbrev pub CanGoOn : ℕ → Phase → Type 0
+CanGoOn harts (phase.Send to) = to < harts
+CanGoOn harts (phase.Pull kept left) = 0 < left
+CanGoOn harts (phase.Plant kept left) = 0 < left
+CanGoOn harts _ = Unit {0}
+
+-- after a load of the gate's number by a hart that was called, or that is parked at another number
+abbrev pub after_gate : Phase → ℕ → Phase
+after_gate phase.Called gate = if gate % 2 == 0 then phase.Run else phase.Mark gate
+after_gate (phase.Parked at) gate = if gate == at then phase.Parked at else phase.Unmark at
+after_gate p gate = p

@@ -6,9 +6,10 @@ mod bus;
 mod calls;
 mod facts;
 mod laws;
+mod next_phase;
 mod notes;
 mod phase;
-mod steps;
+mod bit_masks;
 
 pub use act::{Act, Answer, Entered, Lined, Passed, Turned};
 pub use bus::Bus;
@@ -23,6 +24,7 @@ pub use laws::{
     parked_keeps, pass_step_keeps, plant_keeps, plant_step_keeps, pull_keeps, pull_step_keeps,
     run_keeps, send_keeps, shut_keeps, unmark_keeps, want_keeps, wish_keeps,
 };
+pub use next_phase::{act_of, after_answer, after_gate, after_look, after_shut};
 pub use notes::{Notes, Sitting, Stage};
 pub use phase::{Kept, Looks, Phase, Place, Then};
-pub use steps::mask_has;
+pub use bit_masks::{all_but, least, least_outside, mask_has, mask_with, without_least};
