@@ -23,13 +23,13 @@ pub search_on : (harts k mask : ℕ) → k < harts → has mask k ≡ true → l
 search_on harts k mask lt h =
     let e : harts - k ≡ suc (harts - (k + 1)) = omega arith in
     subst (λ n. least_outside (harts - (k + 1)) (k + 1) mask ≡ least_outside n k mask) (sym e)
-      (sym (cond-true (has mask k) (least_outside (harts - (k + 1)) (k + 1) mask) (Some k) h))
+    (sym (cond-true (has mask k) (least_outside (harts - (k + 1)) (k + 1) mask) (Some k) h))
 
 pub search_found : (harts k mask : ℕ) → k < harts → has mask k ≡ false → Some k ≡ least_outside (harts - k) k mask
 search_found harts k mask lt h =
     let e : harts - k ≡ suc (harts - (k + 1)) = omega arith in
     subst (λ n. Some k ≡ least_outside n k mask) (sym e)
-      (sym (cond-false (has mask k) (least_outside (harts - (k + 1)) (k + 1) mask) (Some k) h))
+    (sym (cond-false (has mask k) (least_outside (harts - (k + 1)) (k + 1) mask) (Some k) h))
 
 pub search_ended : (harts k mask : ℕ) → harts ≤ k → None ≡ least_outside (harts - k) k mask
 search_ended harts k mask le =

@@ -12,3 +12,4 @@ pub mod Leaves
 pub mod Ticks
 pub mod Conditions
 pub mod Bits
+pub mod SeatSteps

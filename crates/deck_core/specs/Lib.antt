@@ -6,3 +6,4 @@ pub mod Contract
 pub mod Tick
 pub mod Invariant
 pub mod Laws
+pub mod Seats

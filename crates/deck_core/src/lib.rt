@@ -2,6 +2,7 @@
 #![tactic(auto)]
 
 mod act;
+mod bit_masks;
 mod bus;
 mod calls;
 mod facts;
@@ -9,9 +10,12 @@ mod laws;
 mod next_phase;
 mod notes;
 mod phase;
-mod bit_masks;
+mod seat_steps;
+mod seats;
+mod words;
 
 pub use act::{Act, Answer, Entered, Lined, Passed, Turned};
+pub use bit_masks::{all_but, least, least_outside, mask_has, mask_with, without_least};
 pub use bus::Bus;
 pub use calls::call;
 pub use facts::{
@@ -27,4 +31,4 @@ pub use laws::{
 pub use next_phase::{act_of, after_answer, after_gate, after_look, after_shut};
 pub use notes::{Notes, Sitting, Stage};
 pub use phase::{Kept, Looks, Phase, Place, Then};
-pub use bit_masks::{all_but, least, least_outside, mask_has, mask_with, without_least};
+pub use words::Words;

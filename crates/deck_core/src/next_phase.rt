@@ -18,7 +18,10 @@ pub fn act_of(h: Hart, phase: Phase) -> Act
         Phase::Pull { kept: _, left } => Act::Pull(least(left)),
         Phase::Lines { kept: _ } => Act::Line(h),
         Phase::PlantStep { kept: _, at } => Act::PlantStep(at),
-        Phase::PassStep { kept: _, planted: _ } => Act::PassStep(h),
+        Phase::PassStep {
+            kept: _,
+            planted: _,
+        } => Act::PassStep(h),
         Phase::PullStep { kept: _, then: _ } => Act::PullStep,
         Phase::Plant { kept: _, left } => Act::Plant(least(left)),
         Phase::Close { kept: _ } => Act::Close(h),
@@ -189,8 +192,14 @@ fn after_line(kept: Kept, lined: Lined) -> Phase
 {
     match lined {
         Lined::Stay => Phase::Lines { kept },
-        Lined::Pass { at: Some(at), again: _ } => Phase::PlantStep { kept, at },
-        Lined::Pass { at: None, again: _ } => Phase::PassStep { kept, planted: false },
+        Lined::Pass {
+            at: Some(at),
+            again: _,
+        } => Phase::PlantStep { kept, at },
+        Lined::Pass { at: None, again: _ } => Phase::PassStep {
+            kept,
+            planted: false,
+        },
         Lined::Free { enabled } => planting(kept, enabled),
         Lined::Ended => Phase::Close { kept },
         Lined::Lost => Phase::Close { kept },
@@ -211,7 +220,10 @@ fn after_pull_step(kept: Kept, then: Then) -> Phase
     ensures { result ≡ after_pull_step kept then }
 {
     match then {
-        Then::Enter => Phase::Enter { kept, reopens: true },
+        Then::Enter => Phase::Enter {
+            kept,
+            reopens: true,
+        },
         Then::Plant { left } => planting(kept, left),
     }
 }
@@ -292,7 +304,10 @@ pub fn after_answer(harts: u8, h: Hart, phase: Phase, answer: Answer) -> Phase
         Phase::Enter { kept, reopens: _ } => after_enter(kept, entered_in(answer)),
         Phase::Pull { kept, left } => pulling(kept, without_least(left)),
         Phase::Lines { kept } => after_line(kept, lined_in(answer)),
-        Phase::PlantStep { kept, at: _ } => Phase::PassStep { kept, planted: true },
+        Phase::PlantStep { kept, at: _ } => Phase::PassStep {
+            kept,
+            planted: true,
+        },
         Phase::PassStep { kept, planted } => after_pass(kept, planted, passed_in(answer)),
         Phase::PullStep { kept, then } => after_pull_step(kept, then),
         Phase::Plant { kept, left } => planting(kept, without_least(left)),

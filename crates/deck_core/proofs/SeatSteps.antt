@@ -1,0 +1,36 @@
+-- A write to an array is a change of the function that reads it.
+use Rattle.std.proofs.Common.{◌≡◌, ℕ, ◌<◌, List, length, get_or, set, refl, sym, ◌∙◌, ap, subst, inl, inr}
+use Rattle.std.proofs.Math.Path.{fun_ext}
+use Rattle.std.proofs.lemmas.Bool.{cases_eq}
+use Rattle.std.proofs.lemmas.List.{get_or-set_same, get_or-set_other}
+use Rattle.deck_core.specs.Told.{Told}
+use Rattle.deck_core.specs.Configuration.{Configuration, put}
+use Rattle.deck_core.specs.Seats.{configuration_of}
+use Rattle.deck_core.specs.Tick.{enters, writes, goes}
+use Rattle.deck_core.specs.declared.phase.Phase.{Phase}
+use Rattle.deck_core.specs.declared.phase.Phase.TheVariants.{Run}
+use Rattle.deck_core.specs.declared.phase.Place.{Place}
+use Rattle.deck_core.specs.declared.phase.Place.TheVariants.{Peek}
+use Rattle.deck_core.specs.declared.seats.Seats.{Seats}
+use Rattle.deck_core.proofs.Frame.{put_same, put_other}
+
+-- a list read with a default
+abbrev pub read : {A : Type 0} → List A → A → ℕ → A
+read xs d k = get_or xs k d
+
+pub read-set : {A : Type 0} (xs : List A) (i : ℕ) (v d : A) → i < length xs → read (set xs i v) d ≡ put (read xs d) i v
+read-set xs i v d lt = fun_ext (λ k.
+    elim (cases_eq k i) [
+      inl e ↦ subst (λ j. get_or (set xs i v) j d ≡ put (read xs d) i v j) (sym e) (get_or-set_same xs i v d lt ∙ sym (put_same (read xs d) i v))
+    | inr ne ↦ get_or-set_other xs i k v d ne ∙ sym (put_other (read xs d) i v k ne) ])
+
+pub enters_seats : (limit : ℕ) (seats : Seats) (told : Told) (h : ℕ) (p : Phase) → h < length seats.phases → record (configuration_of limit seats told) { phase = read (set seats.phases h p) Run } ≡ enters h p (configuration_of limit seats told)
+enters_seats limit seats told h p lt = ap (λ f. record (configuration_of limit seats told) { phase = f }) (read-set seats.phases h p Run lt)
+
+pub writes_seats : (limit : ℕ) (seats : Seats) (told : Told) (h w : ℕ) (p : Phase) → h < length seats.words.x → h < length seats.phases → record (configuration_of limit seats told) { own = read (set seats.words.x h w) 0; phase = read (set seats.phases h p) Run } ≡ writes h w p (configuration_of limit seats told)
+writes_seats limit seats told h w p lt lt2 =
+    ap (λ f. record (configuration_of limit seats told) { own = f; phase = read (set seats.phases h p) Run }) (read-set seats.words.x h w 0 lt)
+    ∙ ap (λ f. record (configuration_of limit seats told) { own = put (read seats.words.x 0) h w; phase = f }) (read-set seats.phases h p Run lt2)
+
+pub goes_seats : (limit : ℕ) (seats : Seats) (told : Told) (h : ℕ) (at : Place) → h < length seats.places → record (configuration_of limit seats told) { place = read (set seats.places h at) Peek } ≡ goes h at (configuration_of limit seats told)
+goes_seats limit seats told h at lt = ap (λ f. record (configuration_of limit seats told) { place = f }) (read-set seats.places h at Peek lt)
