@@ -7,3 +7,4 @@ pub mod Tick
 pub mod Invariant
 pub mod Laws
 pub mod Seats
+pub mod Seat

@@ -5,7 +5,9 @@ mod act;
 mod bit_masks;
 mod bus;
 mod calls;
+mod deck;
 mod facts;
+mod flat;
 mod laws;
 mod next_phase;
 mod notes;
@@ -18,10 +20,12 @@ pub use act::{Act, Answer, Entered, Lined, Passed, Turned};
 pub use bit_masks::{all_but, least, least_outside, mask_has, mask_with, without_least};
 pub use bus::Bus;
 pub use calls::call;
+pub use deck::Deck;
 pub use facts::{
     call_is_allowed, gate_is_bounded, gone_trap_drops, one_master, opening_is_sound, runs_unmasked,
     sessions_never_overlap,
 };
+pub use flat::Flat;
 pub use laws::{
     called_keeps, close_keeps, drop_keeps, enter_keeps, every_plan_keeps, every_tick_keeps,
     finished_keeps, free_keeps, gather_keeps, lines_keeps, mark_keeps, open_gate_keeps, own_keeps,

@@ -1,0 +1,24 @@
+//! The pure deck: words, phases and the bus in one value, with one hart selected.
+ghost use Rattle.std.specs.Prelude.{◌≡◌, ◌<◌, ◌≤◌, length};
+ghost use Rattle.deck_core.specs.Told.{Told, IsTold, IsOpening};
+ghost use Rattle.deck_core.specs.Invariant.{Sound};
+ghost use Rattle.deck_core.specs.Seats.{configuration_of};
+
+use crate::seats::Seats;
+use crate::words::Words;
+use crate::{Bus, Phase, Place};
+use mach_base::{Hart, OutOfMemory};
+use std::alloc::Global;
+
+/// A bus with the words, phases and places of its harts, of which one is selected.
+#[derive(Drop)]
+pub struct Flat<B: Bus> {
+    bus: B,
+    limit: u32,
+    seats: Seats,
+    selected: Hart,
+    idle: bool,
+    ghost selected_is_one: { selected.0 < (B.told bus).harts },
+    ghost fits: { ∥ IsTold (B.told bus) ∥₁ },
+    ghost sound: { ∥ Sound (configuration_of limit seats (B.told bus)) ∥₁ },
+}
