@@ -6,7 +6,7 @@ use Rattle.std.proofs.lemmas.List.{get_or-set_same, get_or-set_other}
 use Rattle.deck_core.specs.Told.{Told}
 use Rattle.deck_core.specs.Configuration.{Configuration, put}
 use Rattle.deck_core.specs.Seats.{configuration_of}
-use Rattle.deck_core.specs.Tick.{enters, writes, goes}
+use Rattle.deck_core.specs.Tick.{enters, writes, goes, gives}
 use Rattle.deck_core.specs.declared.phase.Phase.{Phase}
 use Rattle.deck_core.specs.declared.phase.Phase.TheVariants.{Run}
 use Rattle.deck_core.specs.declared.phase.Place.{Place}
@@ -34,3 +34,9 @@ writes_seats limit seats told h w p lt lt2 =
 
 pub goes_seats : (limit : ℕ) (seats : Seats) (told : Told) (h : ℕ) (at : Place) → h < length seats.places → record (configuration_of limit seats told) { place = read (set seats.places h at) Peek } ≡ goes h at (configuration_of limit seats told)
 goes_seats limit seats told h at lt = ap (λ f. record (configuration_of limit seats told) { place = f }) (read-set seats.places h at Peek lt)
+
+pub gives_seats : (limit : ℕ) (seats : Seats) (told after : Told) (h mask : ℕ) (p : Phase) → mask ≡ after.mask → h < length seats.phases → h < length seats.places → record (configuration_of limit seats after) { turn = mask; phase = read (set seats.phases h p) Run; place = read (set seats.places h Peek) Peek } ≡ gives h p after (configuration_of limit seats told)
+gives_seats limit seats told after h mask p e lt lt2 =
+    ap (λ m. record (configuration_of limit seats after) { turn = m; phase = read (set seats.phases h p) Run; place = read (set seats.places h Peek) Peek }) e
+    ∙ (ap (λ f. record (configuration_of limit seats after) { turn = after.mask; phase = f; place = read (set seats.places h Peek) Peek }) (read-set seats.phases h p Run lt)
+    ∙ ap (λ f. record (configuration_of limit seats after) { turn = after.mask; phase = put (read seats.phases Run) h p; place = f }) (read-set seats.places h Peek Peek lt2))

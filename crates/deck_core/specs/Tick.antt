@@ -235,6 +235,14 @@ waits_at h at c = if c.gate == at then c else enters h (phase.Unmark at) c
 abbrev pub tries_master : ℕ → Configuration → Configuration
 tries_master h c = if c.master == 0 then record c { master = suc h; phase = put c.phase h phase.Own } else c
 
+-- the gate's number grows by 1, and hart h goes to another phase
+abbrev pub turns_gate : ℕ → Phase → Configuration → Configuration
+turns_gate h p c = record c { gate = suc c.gate; phase = put c.phase h p }
+
+-- the master word is freed
+abbrev pub frees : ℕ → Configuration → Configuration
+frees h c = record c { master = 0; phase = put c.phase h phase.Run }
+
 -- whether the mark of hart k counts: it wants the prompt, or marked itself at the gate's present number
 abbrev pub mark_counts : Configuration → ℕ → Bool
 mark_counts c k = (c.own k == 1) || (c.own k == c.gate)
@@ -248,12 +256,12 @@ tick_in (phase.Parked gate) h a after c = waits_at h gate c
 tick_in (phase.Unmark gate) h a after c = writes h 0 phase.Run c
 tick_in phase.Wish h a after c = writes h 1 phase.Want c
 tick_in phase.Want h a after c = tries_master h c
-tick_in phase.Shut h a after c = record c { gate = suc c.gate; phase = put c.phase h (after_shut c.told.harts h) }
+tick_in phase.Shut h a after c = turns_gate h (after_shut c.told.harts h) c
 tick_in (phase.Gather looks) h a after c =
     enters h (after_look c.limit c.told.harts h looks (mark_counts c looks.next)) c
-tick_in phase.OpenGate h a after c = record c { gate = suc c.gate; phase = put c.phase h phase.Drop }
+tick_in phase.OpenGate h a after c = turns_gate h phase.Drop c
 tick_in phase.Drop h a after c = writes h 0 phase.Free c
-tick_in phase.Free h a after c = record c { master = 0; phase = put c.phase h phase.Run }
+tick_in phase.Free h a after c = frees h c
 tick_in phase.Finished h a after c = c
 tick_in p h a after c = transacts h p (c.place h) a after c
 

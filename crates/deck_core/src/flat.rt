@@ -13,12 +13,12 @@ use std::alloc::Global;
 /// A bus with the words, phases and places of its harts, of which one is selected.
 #[derive(Drop)]
 pub struct Flat<B: Bus> {
-    bus: B,
-    limit: u32,
-    seats: Seats,
-    selected: Hart,
-    idle: bool,
+    pub(crate) bus: B,
+    pub(crate) limit: u32,
+    pub(crate) seats: Seats,
+    pub(crate) selected: Hart,
+    pub(crate) idle: bool,
     ghost selected_is_one: { selected.0 < (B.told bus).harts },
-    ghost fits: { ∥ IsTold (B.told bus) ∥₁ },
+    ghost few: { (B.told bus).harts ≤ 32 },
     ghost sound: { ∥ Sound (configuration_of limit seats (B.told bus)) ∥₁ },
 }
