@@ -13,3 +13,4 @@ pub mod Ticks
 pub mod Conditions
 pub mod Bits
 pub mod SeatSteps
+pub mod Flats

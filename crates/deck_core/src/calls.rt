@@ -1,8 +1,9 @@
 //! A call of a bus by its name and arguments.
-ghost use Rattle.std.specs.Prelude.{IsTrue};
+ghost use Rattle.std.specs.Prelude.{◌≡◌, IsTrue};
 ghost use Rattle.deck_core.specs.Contract.{is_allowed, Acts};
+ghost use Rattle.deck_core.specs.Seat.{is_idle};
 
-use crate::{Act, Answer, Bus};
+use crate::{Act, Answer, Bus, Turned};
 
 /// Makes the call on the bus, under the call's own condition.
 pub fn call<B: Bus>(bus: &mut B, act: Act) -> Answer
@@ -40,5 +41,15 @@ pub fn call<B: Bus>(bus: &mut B, act: Act) -> Answer
         Act::Enter(h, late) => Answer::Enter(bus.enter(h, late)),
         Act::Line(h) => Answer::Line(bus.line(h)),
         Act::PassStep(h) => Answer::PassStep(bus.pass_step(h)),
+    }
+}
+
+/// Whether a call answered that the hart has nothing to do.
+pub fn is_idle(answer: Answer) -> bool
+    ensures { result ≡ is_idle answer }
+{
+    match answer {
+        Answer::HartStep(Turned::Idle) => true,
+        _ => false,
     }
 }

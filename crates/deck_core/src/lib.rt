@@ -8,6 +8,7 @@ mod calls;
 mod deck;
 mod facts;
 mod flat;
+mod flat_deck;
 mod laws;
 mod next_phase;
 mod notes;
@@ -32,7 +33,7 @@ pub use laws::{
     parked_keeps, pass_step_keeps, plant_keeps, plant_step_keeps, pull_keeps, pull_step_keeps,
     run_keeps, send_keeps, shut_keeps, unmark_keeps, want_keeps, wish_keeps,
 };
-pub use next_phase::{act_of, after_answer, after_gate, after_look, after_shut};
+pub use next_phase::{act_of, after_answer, after_clear, after_gate, after_look, after_shut};
 pub use notes::{Notes, Sitting, Stage};
 pub use phase::{Kept, Looks, Phase, Place, Then};
 pub use words::Words;

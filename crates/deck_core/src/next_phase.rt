@@ -2,6 +2,7 @@
 ghost use Rattle.std.specs.Prelude.{◌≡◌, ◌<◌, ◌≤◌, Option, None, Some};
 ghost use Rattle.deck_core.specs.Words.{mask_with, least_outside};
 ghost use Rattle.deck_core.specs.Tick.{after_step, after_check, skipping, first_look, entering, after_shut, after_send, gathered_after, after_look, round_over, looks_on, pulling, planting, after_enter, after_line, passing, then_of, after_pull_step, after_pass, act_of, after_answer, after_gate, CanGoOn, step_answer, check_answer, enter_answer, line_answer, pass_answer};
+ghost use Rattle.deck_core.specs.Seat.{after_clear};
 
 use crate::bit_masks::{all_but, least, least_outside, mask_with, without_least};
 use crate::{Act, Answer, Entered, Kept, Lined, Looks, Passed, Phase, Then, Turned};
@@ -336,5 +337,15 @@ pub fn after_gate(phase: Phase, gate: u64) -> Phase
             }
         }
         _ => phase,
+    }
+}
+
+/// The phase of a hart after it has taken its own word back.
+pub fn after_clear(phase: Phase) -> Phase
+    ensures { result ≡ after_clear phase }
+{
+    match phase {
+        Phase::Drop => Phase::Free,
+        _ => Phase::Run,
     }
 }

@@ -10,4 +10,4 @@ pub returns-clause-moves : goal.returns-clause-moves
 returns-clause-moves c = λ limit told.
     let old : Configuration = configuration_of limit c.args.seats.now told in
     c.goes.ensures limit told
-      ∙ sym (cond-false (is_busy c.args.h.0 c.args.phase old.turn) old (goes c.args.h.0 (Take old.turn) old) (sym c.is_busy.ensures ∙ c.if-is_busy.false))
+    ∙ sym (cond-false (is_busy c.args.h.0 c.args.phase old.turn) old (goes c.args.h.0 (Take old.turn) old) (sym c.is_busy.ensures ∙ c.if-is_busy.false))

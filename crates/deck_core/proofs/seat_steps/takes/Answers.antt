@@ -13,8 +13,8 @@ returns-then-seats-seen-clause-moves c = λ limit told.
     let h = c.args.h.0 in
     let taken : Configuration = record old { turn = turn_word (mask_of old.turn) (suc h); place = put old.place h Give } in
     c.goes.ensures limit told
-      ∙ (ap (λ t. record old { turn = t; place = put old.place h Give }) (c.turn_word-seats.ensures ∙ ap (λ m. turn_word m (suc h)) c.mask_of.ensures.value)
-      ∙ sym (cond-true (old.turn == c.args.seen) taken (goes h Peek old) (eq-eqb old.turn c.args.seen c.if-seats-seen.true)))
+    ∙ (ap (λ t. record old { turn = t; place = put old.place h Give }) (c.turn_word-seats.ensures ∙ ap (λ m. turn_word m (suc h)) c.mask_of.ensures.value)
+    ∙ sym (cond-true (old.turn == c.args.seen) taken (goes h Peek old) (eq-eqb old.turn c.args.seen c.if-seats-seen.true)))
 
 pub returns-else-seats-seen-clause-moves : goal.returns-else-seats-seen-clause-moves
 returns-else-seats-seen-clause-moves c = λ limit told.
@@ -22,4 +22,4 @@ returns-else-seats-seen-clause-moves c = λ limit told.
     let h = c.args.h.0 in
     let taken : Configuration = record old { turn = turn_word (mask_of old.turn) (suc h); place = put old.place h Give } in
     c.goes-else-seats-seen.ensures limit told
-      ∙ sym (cond-false (old.turn == c.args.seen) taken (goes h Peek old) (ne_eqb old.turn c.args.seen c.if-seats-seen.false))
+    ∙ sym (cond-false (old.turn == c.args.seen) taken (goes h Peek old) (ne_eqb old.turn c.args.seen c.if-seats-seen.false))

@@ -11,5 +11,5 @@ returns-then-seats-eq0-clause-moves c = λ limit told.
     let h = c.args.h.0 in
     let e : c.from.result + 1 ≡ suc h = omega (arith, c.from.ensures) in
     c.enters.ensures limit told
-      ∙ (ap (λ m. record old { master = m; phase = put old.phase h Own }) e
-      ∙ sym (cond-true (old.master == 0) (record old { master = suc h; phase = put old.phase h Own }) old (eq-eqb old.master 0 c.if-seats-eq0.true)))
+    ∙ (ap (λ m. record old { master = m; phase = put old.phase h Own }) e
+    ∙ sym (cond-true (old.master == 0) (record old { master = suc h; phase = put old.phase h Own }) old (eq-eqb old.master 0 c.if-seats-eq0.true)))
