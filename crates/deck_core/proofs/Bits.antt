@@ -4,7 +4,7 @@ use Rattle.std.proofs.lemmas.Nat.{one_shl, trailing_le}
 use Rattle.std.proofs.lemmas.Nat.Bits.{shr_and_one, bit_at-trailing_zeros}
 use Rattle.std.specs.Int.{bit_at, trailing_zeros, w64}
 use Rattle.std.proofs.lemmas.Bool.{cond-true, cond-false}
-use Rattle.deck_core.specs.Words.{has, least_outside}
+use Rattle.deck_core.specs.Words.{has, least, least_outside}
 
 pub has_by_shift : (n i : ℕ) → bit_and (n / 2 ^ i) 1 ≡ bit_at n i
 has_by_shift n i = shr_and_one n i
@@ -12,8 +12,12 @@ has_by_shift n i = shr_and_one n i
 pub one_at : (k : ℕ) → k < 64 → (1 * 2 ^ k) % 2 ^ 64 ≡ 2 ^ k
 one_at k lt = one_shl k 64 lt
 
-pub trailing_below : (m : ℕ) → 0 < m → m < 2 ^ 64 → trailing_zeros w64 m < 64
+trailing_below : (m : ℕ) → 0 < m → m < 2 ^ 64 → trailing_zeros w64 m < 64
 trailing_below m p lt = (bit_at-trailing_zeros w64 m p lt).0
+
+pub least_small : (m : ℕ) → 0 < m → m < 2 ^ 64 → least m < 64
+unfolding least
+least_small m p lt = trailing_below m p lt
 
 pub trailing_at_most : (m : ℕ) → trailing_zeros w64 m ≤ 64
 trailing_at_most m = trailing_le 64 m

@@ -14,3 +14,4 @@ pub mod Conditions
 pub mod Bits
 pub mod SeatSteps
 pub mod Flats
+pub mod Allowed

@@ -20,13 +20,13 @@ pub fn mask_with(mask: u64, k: u8) -> u64
     mask | 1 << k
 }
 
-/// The mask without its least number; the mask isn't 0.
-#[tactic(auto, unfolding(crate::specs::Words::mask_without, crate::specs::Words::least), using(crate::proofs::Bits::one_at, crate::proofs::Bits::trailing_below))]
-pub fn without_least(mask: u64) -> u64
-    requires { 0 < mask }
-    ensures { result ≡ mask_without mask (least mask) }
+/// The mask without this number, below 64, which it has.
+#[tactic(auto, unfolding(crate::specs::Words::mask_without), using(crate::proofs::Bits::one_at))]
+pub fn mask_without(mask: u64, k: u8) -> u64
+    requires { k < 64 }
+    ensures { result ≡ mask_without mask k }
 {
-    mask ^ 1 << mask.trailing_zeros()
+    mask ^ 1 << k
 }
 
 /// The least number of a mask; 64 where it is 0.
@@ -35,6 +35,15 @@ pub fn least(mask: u64) -> u8
     ensures { result ≡ least mask }
 {
     mask.trailing_zeros() as u8
+}
+
+/// The mask without its least number; the mask isn't 0.
+#[tactic(auto, using(crate::proofs::Bits::least_small))]
+pub fn without_least(mask: u64) -> u64
+    requires { 0 < mask }
+    ensures { result ≡ mask_without mask (least mask) }
+{
+    mask_without(mask, least(mask))
 }
 
 /// The mask of all of so many harts, at most 32, but those of a mask.

@@ -12,13 +12,14 @@ mod flat_deck;
 mod laws;
 mod next_phase;
 mod notes;
+mod pause;
 mod phase;
 mod seat_steps;
 mod seats;
 mod words;
 
 pub use act::{Act, Answer, Entered, Lined, Passed, Turned};
-pub use bit_masks::{all_but, least, least_outside, mask_has, mask_with, without_least};
+pub use bit_masks::{all_but, least, least_outside, mask_has, mask_with, mask_without, without_least};
 pub use bus::Bus;
 pub use calls::call;
 pub use deck::Deck;
@@ -33,7 +34,11 @@ pub use laws::{
     parked_keeps, pass_step_keeps, plant_keeps, plant_step_keeps, pull_keeps, pull_step_keeps,
     run_keeps, send_keeps, shut_keeps, unmark_keeps, want_keeps, wish_keeps,
 };
-pub use next_phase::{act_of, after_answer, after_clear, after_gate, after_look, after_shut};
+pub use next_phase::{act_of, after_answer, after_clear, after_gate, after_look, after_shut, is_transaction};
 pub use notes::{Notes, Sitting, Stage};
+pub use pause::{Counted, Pause};
 pub use phase::{Kept, Looks, Phase, Place, Then};
 pub use words::Words;
+
+#[cfg(test)]
+mod tests;

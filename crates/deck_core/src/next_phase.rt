@@ -1,7 +1,7 @@
 //! The call that a phase makes, and where a phase leads, as plain functions.
 ghost use Rattle.std.specs.Prelude.{◌≡◌, ◌<◌, ◌≤◌, Option, None, Some};
 ghost use Rattle.deck_core.specs.Words.{mask_with, least_outside};
-ghost use Rattle.deck_core.specs.Tick.{after_step, after_check, skipping, first_look, entering, after_shut, after_send, gathered_after, after_look, round_over, looks_on, pulling, planting, after_enter, after_line, passing, then_of, after_pull_step, after_pass, act_of, after_answer, after_gate, CanGoOn, step_answer, check_answer, enter_answer, line_answer, pass_answer};
+ghost use Rattle.deck_core.specs.Tick.{after_step, after_check, skipping, first_look, entering, after_shut, after_send, gathered_after, after_look, round_over, looks_on, pulling, planting, after_enter, after_line, passing, then_of, after_pull_step, after_pass, act_of, is_transaction, after_answer, after_gate, CanGoOn, step_answer, check_answer, enter_answer, line_answer, pass_answer};
 ghost use Rattle.deck_core.specs.Seat.{after_clear};
 
 use crate::bit_masks::{all_but, least, least_outside, mask_with, without_least};
@@ -347,5 +347,26 @@ pub fn after_clear(phase: Phase) -> Phase
     match phase {
         Phase::Drop => Phase::Free,
         _ => Phase::Run,
+    }
+}
+
+/// Whether the phase is a transaction: it makes one call of the bus, while it holds the turn.
+pub fn is_transaction(phase: Phase) -> bool
+    ensures { result ≡ is_transaction phase }
+{
+    match phase {
+        Phase::Called => false,
+        Phase::Mark { gate: _ } => false,
+        Phase::Parked { gate: _ } => false,
+        Phase::Unmark { gate: _ } => false,
+        Phase::Wish => false,
+        Phase::Want => false,
+        Phase::Shut => false,
+        Phase::Gather { looks: _ } => false,
+        Phase::OpenGate => false,
+        Phase::Drop => false,
+        Phase::Free => false,
+        Phase::Finished => false,
+        _ => true,
     }
 }
