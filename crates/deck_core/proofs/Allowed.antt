@@ -15,5 +15,6 @@ pub allowed_legal : (a : Act) (b : Told) → is_allowed a b ≡ true → b.over 
 unfolding is_allowed
 allowed_legal a b h w =
     elim (or_cases b.over (is_legal a b) ((and_parts (names_what_is a b.harts) (b.over || is_legal a b) h).1)) [
-      inl o ↦ absurd (both_ways b.over w o)
-    | inr l ↦ l ]
+      | inl o ↦ absurd (both_ways b.over w o)
+      | inr l ↦ l
+    ]

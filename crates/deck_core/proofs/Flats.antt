@@ -37,7 +37,8 @@ quiet c next h p e t n = record {
   answer = answer.Send;
   after = c.told;
   honest = λ m. absurd (both_ways (makes_call h c) (and_left (is_transaction (c.phase h)) (holds (c.place h)) (ap is_transaction e ∙ t)) m);
-  ticked = n ∙ ap (λ q. tick_in q h answer.Send c.told c) (sym e) }
+  ticked = n ∙ ap (λ q. tick_in q h answer.Send c.told c) (sym e);
+}
 
 -- the invariant over a tick
 pub sound_on : (c next : Configuration) (h : ℕ) → ∥ Sound c ∥₁ → h < c.told.harts → Ticks h c next → ∥ Sound next ∥₁
@@ -58,8 +59,9 @@ seat_moved c next h master gate own p idle e =
 pub put_again : {A : Type 0} (f : ℕ → A) (h : ℕ) (v : A) → f h ≡ v → put f h v ≡ f
 put_again f h v e = fun_ext (λ k.
     elim (cases_eq k h) [
-      inl q ↦ subst (λ j. put f h v j ≡ f j) (sym q) (put_same f h v ∙ sym e)
-    | inr ne ↦ put_other f h v k ne ])
+      | inl q ↦ subst (λ j. put f h v j ≡ f j) (sym q) (put_same f h v ∙ sym e)
+      | inr ne ↦ put_other f h v k ne
+    ])
 
 pub clear_ticks : (c next : Configuration) (h : ℕ) (p : Phase) → c.phase h ≡ p → clears p ≡ true → next ≡ writes h 0 (after_clear p) c → Ticks h c next
 clear_ticks c next h (phase.Unmark gate) e t n = quiet c next h (phase.Unmark gate) e refl n
@@ -71,8 +73,9 @@ gate_next c h at e =
     let f : Bool → Configuration = λ b. enters h (if b then phase.Parked at else phase.Unmark at) c in
     let g : Bool → Configuration = λ b. if b then c else enters h (phase.Unmark at) c in
     elim (cases_Bool (c.gate == at)) [
-      inl t ↦ subst (λ b. f b ≡ g b) (sym t) (ap (λ q. record c { phase = q }) (put_again c.phase h (phase.Parked at) e))
-    | inr t ↦ subst (λ b. f b ≡ g b) (sym t) refl ]
+      | inl t ↦ subst (λ b. f b ≡ g b) (sym t) (ap (λ q. record c { phase = q }) (put_again c.phase h (phase.Parked at) e))
+      | inr t ↦ subst (λ b. f b ≡ g b) (sym t) refl
+    ]
 
 pub gate_ticks : (c next : Configuration) (h : ℕ) (p : Phase) → c.phase h ≡ p → sees_gate p ≡ true → next ≡ enters h (after_gate p c.gate) c → Ticks h c next
 gate_ticks c next h phase.Called e t n = quiet c next h phase.Called e refl n
@@ -84,9 +87,10 @@ try_seat c next h result idle e r n =
     let won : Configuration = record c { master = suc h; phase = put c.phase h phase.Own } in
     let f : Bool → Type 0 = λ b. seat_of h false (if b then won else c) ≡ record (seat_of h idle c) { phase = if b then phase.Own else phase.Want; idle = false } in
     let step : f result =
-      elim (cases_Bool result) [
-        inl t ↦ subst f (sym t) (ap (λ q. record (seat_of h idle c) { phase = q; idle = false }) (put_same c.phase h phase.Own))
-      | inr t ↦ subst f (sym t) (ap (λ q. record (seat_of h idle c) { phase = q; idle = false }) e) ] in
+    elim (cases_Bool result) [
+      | inl t ↦ subst f (sym t) (ap (λ q. record (seat_of h idle c) { phase = q; idle = false }) (put_same c.phase h phase.Own))
+      | inr t ↦ subst f (sym t) (ap (λ q. record (seat_of h idle c) { phase = q; idle = false }) e)
+    ] in
     (ap (seat_of h false) (n ∙ ap (λ b. if b then won else c) (sym r))) ∙ step
 
 -- ---- transactions
@@ -117,7 +121,8 @@ unheld c next h at t e out n = record {
   answer = answer.Send;
   after = c.told;
   honest = λ m. absurd (both_ways (makes_call h c) (and_right (is_transaction (c.phase h)) (holds (c.place h)) (ap holds e ∙ out)) m);
-  ticked = n ∙ sym (tick_transacts h at answer.Send c.told c t e) }
+  ticked = n ∙ sym (tick_transacts h at answer.Send c.told c t e);
+}
 
 -- a place before the load is Peek, one before the taking has a word that was seen
 peek_is : (at : Place) → is_peek at ≡ true → at ≡ place.Peek
@@ -132,7 +137,7 @@ pub peek_seen : (c next : Configuration) (h : ℕ) (idle : Bool) → not (is_bus
 peek_seen c next h idle t n =
     let free : is_busy h (c.phase h) c.turn ≡ false = not-true (is_busy h (c.phase h) c.turn) t in
     ap (seat_of h false) (n ∙ cond-false (is_busy h (c.phase h) c.turn) c (goes h (place.Take c.turn) c) free)
-      ∙ ap (λ q. record (seat_of h idle c) { place = q; idle = false }) (put_same c.place h (place.Take c.turn))
+    ∙ ap (λ q. record (seat_of h idle c) { place = q; idle = false }) (put_same c.place h (place.Take c.turn))
 
 pub peek_busy : (c next : Configuration) (h : ℕ) (idle : Bool) → not (is_busy h (c.phase h) c.turn) ≡ false → next ≡ peeks h (c.phase h) c → seat_of h false next ≡ record (seat_of h idle c) { idle = false }
 peek_busy c next h idle t n =
@@ -147,9 +152,10 @@ take_seat c next h seen result idle r n =
     let taken : Configuration = record c { turn = turn_word (mask_of c.turn) (suc h); place = put c.place h place.Give } in
     let f : Bool → Type 0 = λ b. seat_of h false (if b then taken else goes h place.Peek c) ≡ record (seat_of h idle c) { place = if b then place.Give else place.Peek; idle = false } in
     let step : f result =
-      elim (cases_Bool result) [
-        inl t ↦ subst f (sym t) (ap (λ q. record (seat_of h idle c) { place = q; idle = false }) (put_same c.place h place.Give))
-      | inr t ↦ subst f (sym t) (ap (λ q. record (seat_of h idle c) { place = q; idle = false }) (put_same c.place h place.Peek)) ] in
+    elim (cases_Bool result) [
+      | inl t ↦ subst f (sym t) (ap (λ q. record (seat_of h idle c) { place = q; idle = false }) (put_same c.place h place.Give))
+      | inr t ↦ subst f (sym t) (ap (λ q. record (seat_of h idle c) { place = q; idle = false }) (put_same c.place h place.Peek))
+    ] in
     ap (seat_of h false) (n ∙ ap (λ b. if b then taken else goes h place.Peek c) (sym r)) ∙ step
 
 -- ---- the call
@@ -168,14 +174,15 @@ give_ticks c next h a after t e acts n = record {
   answer = a;
   after = after;
   honest = λ m. acts;
-  ticked = n ∙ sym (give_tick c h a after t e) }
+  ticked = n ∙ sym (give_tick c h a after t e);
+}
 
 pub give_seat : (c next : Configuration) (h : ℕ) (p : Phase) (after : Told) (now idle : Bool) → after.harts ≡ c.told.harts → next ≡ gives h p after c → seat_of h now next ≡ record (seat_of h idle c) { phase = p; place = place.Peek; idle = now }
 give_seat c next h p after now idle harts n =
     ap (seat_of h now) n
-      ∙ (ap (λ x. record (seat_of h idle c) { harts = x; phase = put c.phase h p h; place = put c.place h place.Peek h; idle = now }) harts
-      ∙ (ap (λ x. record (seat_of h idle c) { phase = x; place = put c.place h place.Peek h; idle = now }) (put_same c.phase h p)
-      ∙ ap (λ x. record (seat_of h idle c) { phase = p; place = x; idle = now }) (put_same c.place h place.Peek)))
+    ∙ (ap (λ x. record (seat_of h idle c) { harts = x; phase = put c.phase h p h; place = put c.place h place.Peek h; idle = now }) harts
+    ∙ (ap (λ x. record (seat_of h idle c) { phase = x; place = put c.place h place.Peek h; idle = now }) (put_same c.phase h p)
+    ∙ ap (λ x. record (seat_of h idle c) { phase = p; place = x; idle = now }) (put_same c.place h place.Peek)))
 
 -- the number of harts stays over a call
 changes_harts : (b after to : Told) → Changes b after to → to.harts ≡ b.harts → after.harts ≡ b.harts
@@ -251,9 +258,9 @@ pub look_ticks : (c next : Configuration) (h : ℕ) (looks : Looks) (k : ℕ) (r
 look_ticks c next h looks k result e at r n =
     let same : k ≡ looks.next = at ∙ ap (λ p. (looks_in p).next) e in
     quiet c next h (phase.Gather looks) e refl
-      (n ∙ ap (λ x. enters h (after_look c.limit c.told.harts h looks x) c) (r ∙ ap (mark_counts c) same))
+    (n ∙ ap (λ x. enters h (after_look c.limit c.told.harts h looks x) c) (r ∙ ap (mark_counts c) same))
 
 pub look_seat : (c next : Configuration) (h : ℕ) (looks : Looks) (result idle : Bool) → c.phase h ≡ phase.Gather looks → next ≡ enters h (after_look c.limit c.told.harts h looks result) c → seat_of h false next ≡ record (seat_of h idle c) { phase = after_look c.limit c.told.harts h (looks_in (c.phase h)) result; idle = false }
 look_seat c next h looks result idle e n =
     seat_moved c next h c.master c.gate c.own (after_look c.limit c.told.harts h looks result) idle n
-      ∙ ap (λ p. record (seat_of h idle c) { phase = after_look c.limit c.told.harts h (looks_in p) result; idle = false }) (sym e)
+    ∙ ap (λ p. record (seat_of h idle c) { phase = after_look c.limit c.told.harts h (looks_in p) result; idle = false }) (sym e)

@@ -46,8 +46,9 @@ gives_seats limit seats told after h mask p e lt lt2 =
 read-same : {A : Type 0} (n : ℕ) (v : A) (k : ℕ) → get_or (replicate n v) k v ≡ v
 read-same n v k =
     elim (cases_lt k n) [
-      inl lt ↦ get_or-replicate n k v v lt
-    | inr le ↦ get_or_past (replicate n v) k v (subst (λ m. m ≤ k) (sym (length-replicate n v)) le) ]
+      | inl lt ↦ get_or-replicate n k v v lt
+      | inr le ↦ get_or_past (replicate n v) k v (subst (λ m. m ≤ k) (sym (length-replicate n v)) le)
+    ]
 
 -- the seats before the first tick
 pub opening_seats : (limit : ℕ) (told : Told) → record (opening limit told) { own = read (replicate 32 0) 0; phase = read (replicate 32 Run) Run; place = read (replicate 32 Peek) Peek } ≡ opening limit told
@@ -56,5 +57,5 @@ opening_seats limit told =
     let g : read (replicate 32 Run) Run ≡ (λ k. Run) = fun_ext (read-same 32 Run) in
     let h : read (replicate 32 Peek) Peek ≡ (λ k. Peek) = fun_ext (read-same 32 Peek) in
     ap (λ x. record (opening limit told) { own = x; phase = read (replicate 32 Run) Run; place = read (replicate 32 Peek) Peek }) f
-      ∙ (ap (λ x. record (opening limit told) { phase = x; place = read (replicate 32 Peek) Peek }) g
-      ∙ ap (λ x. record (opening limit told) { place = x }) h)
+    ∙ (ap (λ x. record (opening limit told) { phase = x; place = read (replicate 32 Peek) Peek }) g
+    ∙ ap (λ x. record (opening limit told) { place = x }) h)

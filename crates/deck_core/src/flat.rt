@@ -48,7 +48,11 @@ impl<B: Bus> Flat<B> {
         Ok(Flat {
             bus,
             limit,
-            seats: Seats { words, phases, places },
+            seats: Seats {
+                words,
+                phases,
+                places,
+            },
             selected: Hart(0),
             idle: false,
         })

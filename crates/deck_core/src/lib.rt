@@ -19,7 +19,9 @@ mod seats;
 mod words;
 
 pub use act::{Act, Answer, Entered, Lined, Passed, Turned};
-pub use bit_masks::{all_but, least, least_outside, mask_has, mask_with, mask_without, without_least};
+pub use bit_masks::{
+    all_but, least, least_outside, mask_has, mask_with, mask_without, without_least,
+};
 pub use bus::Bus;
 pub use calls::call;
 pub use deck::Deck;
@@ -34,7 +36,9 @@ pub use laws::{
     parked_keeps, pass_step_keeps, plant_keeps, plant_step_keeps, pull_keeps, pull_step_keeps,
     run_keeps, send_keeps, shut_keeps, unmark_keeps, want_keeps, wish_keeps,
 };
-pub use next_phase::{act_of, after_answer, after_clear, after_gate, after_look, after_shut, is_transaction};
+pub use next_phase::{
+    act_of, after_answer, after_clear, after_gate, after_look, after_shut, is_transaction,
+};
 pub use notes::{Notes, Sitting, Stage};
 pub use pause::{Counted, Pause};
 pub use phase::{Kept, Looks, Phase, Place, Then};

@@ -1,7 +1,7 @@
 //! A bus over plain numbers: two harts, a script of three lines, and one breakpoint place that its first line enables.
 ghost use Rattle.std.specs.Prelude.{◌≡◌, ◌<◌, ◌≤◌, ◌^◌, ◌||◌, ⊤, is_some, refl, false, suc};
 ghost use Rattle.std.proofs.Common.{rules};
-ghost use Rattle.deck_core.specs.Told.{told_of};
+ghost use Rattle.deck_core.specs.Told.{told_of, IsOpening};
 
 use crate::bit_masks::{all_but, mask_has, mask_with, mask_without};
 use crate::{Bus, Entered, Lined, Notes, Passed, Sitting, Stage, Turned};
@@ -24,7 +24,9 @@ pub struct SmallBus {
 }
 
 /// A bus on which nothing has happened; hart 0 has a trap.
-pub fn small_bus() -> SmallBus {
+pub fn small_bus() -> SmallBus
+    ensures { IsOpening (⟦<SmallBus as Bus>⟧.told result) }
+{
     SmallBus {
         mask: 0,
         notes: Notes {
@@ -158,7 +160,10 @@ impl Bus for SmallBus {
                 self.notes.next = Some(STEP);
                 self.notes.plantable = true;
                 read_line(&mut self.notes, sitting, Stage::Pass { again: true });
-                Lined::Pass { at: Some(STEP), again: true }
+                Lined::Pass {
+                    at: Some(STEP),
+                    again: true,
+                }
             }
             (Some(sitting), 2) => {
                 read_line(&mut self.notes, sitting, Stage::Leaving);
@@ -181,12 +186,32 @@ impl Bus for SmallBus {
             return Passed::Faulted;
         }
         match self.notes.session {
-            Some(Sitting { master, late, stage: Stage::Pass { again: true } }) => {
-                self.notes.session = Some(Sitting { master, late, stage: Stage::Back });
+            Some(
+                Sitting {
+                    master,
+                    late,
+                    stage: Stage::Pass { again: true },
+                },
+            ) => {
+                self.notes.session = Some(Sitting {
+                    master,
+                    late,
+                    stage: Stage::Back,
+                });
                 Passed::Back
             }
-            Some(Sitting { master, late, stage: _ }) => {
-                self.notes.session = Some(Sitting { master, late, stage: Stage::Leaving });
+            Some(
+                Sitting {
+                    master,
+                    late,
+                    stage: _,
+                },
+            ) => {
+                self.notes.session = Some(Sitting {
+                    master,
+                    late,
+                    stage: Stage::Leaving,
+                });
                 Passed::Free {
                     enabled: self.notes.enabled,
                 }

@@ -12,7 +12,8 @@ invariant_of-result-2 g c =
     record {
       selected_is_one = omega (arith, c.requires.bus.fits.some_harts);
       few = c.requires.bus.fits.few_harts;
-      sound = ∣ subst Sound (sym (opening_seats c.args.limit b)) (opening_is_sound c.args.limit b c.requires.rounds c.requires.bus) ∣₁ }
+      sound = ∣ subst Sound (sym (opening_seats c.args.limit b)) (opening_is_sound c.args.limit b c.requires.rounds c.requires.bus) ∣₁;
+    }
 
 pub returns-clause-whole : goal.returns-clause-whole
 returns-clause-whole g c = ap Some (opening_seats c.args.limit (g.B.Bus.told c.args.bus))

@@ -25,7 +25,7 @@ after_answer-next-requires-clause-in_range g c =
     let b : Told = g.B.Bus.told s.bus in
     let old : Configuration = configuration_of s.limit s.seats b in
     subst (λ n. CanGoOn n c.phase_of-phase.result) (sym c.harts-harts.ensures)
-      (subst (λ p. CanGoOn b.harts p) (sym c.phase_of-phase.ensures) (goes_on_here old s.selected.0 s.sound))
+    (subst (λ p. CanGoOn b.harts p) (sym c.phase_of-phase.ensures) (goes_on_here old s.selected.0 s.sound))
 
 pub invariant_of-self : goal.invariant_of-self
 invariant_of-self g c =
@@ -40,12 +40,13 @@ invariant_of-self g c =
     let acts : Acts (act_of h (old.phase h)) b a b2 = subst (λ x. Acts x b a b2) c.requires.own_call c.call-answer.ensures.acts in
     let harts : b2.harts ≡ b.harts = acts_harts (act_of h (old.phase h)) b b2 a acts.does in
     let leads : c.after_answer-next.result ≡ p =
-      c.after_answer-next.ensures ∙ (ap (λ n. after_answer n h c.phase_of-phase.result a) c.harts-harts.ensures ∙ ap (λ q. after_answer b.harts h q a) c.phase_of-phase.ensures) in
+    c.after_answer-next.ensures ∙ (ap (λ n. after_answer n h c.phase_of-phase.result a) c.harts-harts.ensures ∙ ap (λ q. after_answer b.harts h q a) c.phase_of-phase.ensures) in
     let moves : next ≡ gives h p b2 old = c.gives.ensures s.limit b b2 c.mask-mask.ensures ∙ ap (λ q. gives h q b2 old) leads in
     record {
       selected_is_one = subst (λ n. h < n) (sym harts) s.selected_is_one;
       few = subst (λ n. n ≤ 32) (sym harts) s.few;
-      sound = sound_on old next h s.sound s.selected_is_one (give_ticks old next h a b2 c.requires.phase c.requires.place acts moves) }
+      sound = sound_on old next h s.sound s.selected_is_one (give_ticks old next h a b2 c.requires.phase c.requires.place acts moves);
+    }
 
 pub returns-clause-answer : goal.returns-clause-answer
 returns-clause-answer g c =
@@ -64,10 +65,10 @@ returns-clause-seat g c =
     let acts : Acts (act_of h (old.phase h)) b a b2 = subst (λ x. Acts x b a b2) c.requires.own_call c.call-answer.ensures.acts in
     let harts : b2.harts ≡ b.harts = acts_harts (act_of h (old.phase h)) b b2 a acts.does in
     let leads : c.after_answer-next.result ≡ p =
-      c.after_answer-next.ensures ∙ (ap (λ n. after_answer n h c.phase_of-phase.result a) c.harts-harts.ensures ∙ ap (λ q. after_answer b.harts h q a) c.phase_of-phase.ensures) in
+    c.after_answer-next.ensures ∙ (ap (λ n. after_answer n h c.phase_of-phase.result a) c.harts-harts.ensures ∙ ap (λ q. after_answer b.harts h q a) c.phase_of-phase.ensures) in
     let moves : next ≡ gives h p b2 old = c.gives.ensures s.limit b b2 c.mask-mask.ensures ∙ ap (λ q. gives h q b2 old) leads in
     give_seat old next h p b2 c.is_idle-self.result s.idle harts moves
-      ∙ ap (λ i. record (seat_of h s.idle old) { phase = p; place = place.Peek; idle = i }) c.is_idle-self.ensures
+    ∙ ap (λ i. record (seat_of h s.idle old) { phase = p; place = place.Peek; idle = i }) c.is_idle-self.ensures
 
 pub returns-clause-ticks : goal.returns-clause-ticks
 returns-clause-ticks g c =
@@ -82,6 +83,6 @@ returns-clause-ticks g c =
     let acts : Acts (act_of h (old.phase h)) b a b2 = subst (λ x. Acts x b a b2) c.requires.own_call c.call-answer.ensures.acts in
     let harts : b2.harts ≡ b.harts = acts_harts (act_of h (old.phase h)) b b2 a acts.does in
     let leads : c.after_answer-next.result ≡ p =
-      c.after_answer-next.ensures ∙ (ap (λ n. after_answer n h c.phase_of-phase.result a) c.harts-harts.ensures ∙ ap (λ q. after_answer b.harts h q a) c.phase_of-phase.ensures) in
+    c.after_answer-next.ensures ∙ (ap (λ n. after_answer n h c.phase_of-phase.result a) c.harts-harts.ensures ∙ ap (λ q. after_answer b.harts h q a) c.phase_of-phase.ensures) in
     let moves : next ≡ gives h p b2 old = c.gives.ensures s.limit b b2 c.mask-mask.ensures ∙ ap (λ q. gives h q b2 old) leads in
     (b2, (acts, ap Some (moves ∙ sym (give_tick old h a b2 c.requires.phase c.requires.place))))
