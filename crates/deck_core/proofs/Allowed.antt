@@ -1,5 +1,5 @@
 -- What the condition of a call of the bus says.
-use Rattle.std.proofs.Common.{◌≡◌, ◌||◌, Bool, true, false, inl, inr}
+use Rattle.std.proofs.Common.{◌≡◌, ◌||◌, true, false, inl, inr}
 use Rattle.std.proofs.lemmas.Bool.{and_parts, or_cases, both_ways}
 use Rattle.deck_core.specs.Told.{Told}
 use Rattle.deck_core.specs.Contract.{is_allowed, is_legal, names_what_is}

@@ -1,14 +1,13 @@
 -- The conditions of the bus, and what else follows from the invariant.
-use Rattle.std.proofs.Common.{◌≡◌, ℕ, suc, zero, ◌+◌, ◌-◌, ◌*◌, ◌/◌, ◌%◌, ◌^◌, ◌<◌, ◌≤◌, ◌≢◌, ◌==◌, ◌&&◌, ◌||◌, ◌⊎◌, Bool, true, false, not, nat_lt, refl, sym, ◌∙◌, ap, subst, inl, inr, arith, if◌then◌else◌, Option, Some, None, is_some, is_none}
-use Rattle.std.proofs.lemmas.Bool.{cases_eq, cases_lt, cases_order, cases_Bool, eq-eqb, ne_eqb, eqb-true, eqb-false, ltb-true, ltb-false, lt-ltb, le-ltb, both_ways, and_parts, and_from, and_right, or_cases, or_left, or_right, or_parts, false_from_ne_true, true_from_ne_false, not-true, not-false, cond-true, cond-false}
-use Rattle.std.proofs.lemmas.Nat.{pow_pos}
-use Rattle.deck_core.specs.Words.{has, mask_with, mask_without, all_but, least, least_outside, mask_of, holder_of}
-use Rattle.deck_core.specs.Phases.{is_masters, own_word, is_finished, is_shut, is_before_opening, is_in_session, has_read, is_at_gate, late_of, is_marked, KeepsOldNumber, WasShut, holds, counts, called}
-use Rattle.deck_core.specs.Told.{Told, IsTold}
-use Rattle.deck_core.specs.Configuration.{Configuration, put, lead_of}
-use Rattle.deck_core.specs.Contract.{Acts, Gives, Changes, CheckGives, sent, in_stage, is_lines, is_pass, is_leaving, comes_back}
-use Rattle.deck_core.specs.Tick.{gives, act_of, check_answer, after_check, after_shut, after_send, first_look, entering, skipping, gathered_after, looks_on, round_over, after_look, mark_counts, enters, pulling, planting, after_enter, enter_answer, line_answer, pass_answer, after_line, passing, after_pass, then_of, after_pull_step}
-use Rattle.deck_core.specs.Invariant.{Sound, TurnAt, HartFits, MarkFits, LeadFits, Working, KeepsInRange, IsOther, LooksFit, LateFits, LeftFits, ThenFits, IsPlanting, PlantedFits, ThenPlants, StepFits, MayPlantStep, StepStands, session_fits, stage_fits, at_master, bit, openings}
+use Rattle.std.proofs.Common.{◌≡◌, ℕ, suc, ◌+◌, ◌-◌, ◌*◌, ◌%◌, ◌^◌, ◌<◌, ◌≤◌, ◌==◌, ◌&&◌, ◌||◌, Bool, true, false, not, nat_lt, refl, sym, ◌∙◌, ap, subst, inl, inr, arith, if◌then◌else◌, Option, Some, None, is_some, is_none}
+use Rattle.std.proofs.lemmas.Bool.{cases_Bool, eq-eqb, eqb-true, eqb-false, lt-ltb, both_ways, and_parts, and_from, and_right, or_cases, or_left, or_right, false_from_ne_true}
+use Rattle.deck_core.specs.Words.{has, least}
+use Rattle.deck_core.specs.Phases.{is_masters, is_shut, is_in_session, is_at_gate, late_of, is_marked, holds, called}
+use Rattle.deck_core.specs.Told.{Told}
+use Rattle.deck_core.specs.Configuration.{Configuration, lead_of}
+use Rattle.deck_core.specs.Contract.{Acts, is_lines, is_pass, is_leaving, comes_back}
+use Rattle.deck_core.specs.Tick.{act_of, check_answer, after_check}
+use Rattle.deck_core.specs.Invariant.{Sound, LateFits, IsPlanting, StepFits, MayPlantStep, session_fits, stage_fits, bit, openings}
 use Rattle.deck_core.specs.declared.notes.Sitting.{Sitting}
 use Rattle.deck_core.specs.declared.notes.Stage.{Stage}
 use Rattle.deck_core.specs.declared.notes.Stage.TheVariants as stage
@@ -16,18 +15,16 @@ use Rattle.deck_core.specs.declared.phase.Phase.{Phase}
 use Rattle.deck_core.specs.declared.phase.Phase.TheVariants as phase
 use Rattle.deck_core.specs.declared.phase.Place.TheVariants as place
 use Rattle.deck_core.specs.declared.phase.Kept.{Kept}
-use Rattle.deck_core.specs.declared.phase.Looks.{Looks}
 use Rattle.deck_core.specs.declared.phase.Then.{Then}
 use Rattle.deck_core.specs.declared.phase.Then.TheVariants as follow
 use Rattle.deck_core.specs.Contract.{is_allowed, is_legal, names_what_is, in_session, is_of, may_open, may_pull_step, is_address}
-use Rattle.deck_core.specs.Tick.{tick, tick_in, Ticks, is_transaction, makes_call, transacts, after_answer}
+use Rattle.deck_core.specs.Tick.{tick, tick_in, is_transaction, transacts, after_answer}
 use Rattle.deck_core.specs.declared.phase.Place.{Place}
 use Rattle.deck_core.specs.Laws.{CallIsAllowed, OneMaster, RunsUnmasked, SessionsNeverOverlap, GoneTrapDrops, GateIsBounded}
 use Rattle.deck_core.specs.declared.act.Act.{Act}
 use Rattle.deck_core.specs.declared.act.Act.TheVariants as act
 use Rattle.deck_core.specs.declared.act.Answer.{Answer}
-use Rattle.deck_core.specs.declared.act.Answer.TheVariants as answer
-use Rattle.deck_core.proofs.Masks.{has-zero, has-least}
+use Rattle.deck_core.proofs.Masks.{has-least}
 use Rattle.deck_core.proofs.Frame.{Mine, mine, master_of, put_same}
 use Rattle.deck_core.proofs.Elects.{called_is, bit_and_false}
 use Rattle.deck_core.proofs.Enters.{enter_step}

@@ -1,32 +1,26 @@
 -- What the phases of an open session have in common, and the opening of a session.
-use Rattle.std.proofs.Common.{◌≡◌, ℕ, suc, zero, ◌+◌, ◌-◌, ◌*◌, ◌/◌, ◌%◌, ◌^◌, ◌<◌, ◌≤◌, ◌≢◌, ◌==◌, ◌&&◌, ◌||◌, ◌⊎◌, Bool, true, false, not, nat_lt, refl, sym, ◌∙◌, ap, subst, inl, inr, arith, if◌then◌else◌, Option, Some, None, is_some, is_none}
-use Rattle.std.proofs.lemmas.Bool.{cases_eq, cases_lt, cases_order, cases_Bool, eq-eqb, ne_eqb, eqb-true, eqb-false, ltb-true, ltb-false, lt-ltb, le-ltb, both_ways, and_parts, and_from, and_right, or_cases, or_left, or_right, or_parts, false_from_ne_true, true_from_ne_false, not-true, not-false, cond-true, cond-false}
-use Rattle.std.proofs.lemmas.Nat.{pow_pos}
-use Rattle.deck_core.specs.Words.{has, mask_with, mask_without, all_but, least, least_outside, mask_of, holder_of}
-use Rattle.deck_core.specs.Phases.{is_masters, own_word, is_finished, is_shut, is_before_opening, is_in_session, has_read, is_at_gate, late_of, is_marked, KeepsOldNumber, WasShut, holds, counts, called}
+use Rattle.std.proofs.Common.{◌≡◌, ℕ, suc, ◌+◌, ◌-◌, ◌*◌, ◌^◌, ◌<◌, ◌≤◌, ◌==◌, ◌&&◌, Bool, true, false, not, nat_lt, refl, sym, ◌∙◌, ap, subst, inl, inr, arith, if◌then◌else◌, Option, Some, None}
+use Rattle.std.proofs.lemmas.Bool.{cases_Bool, eq-eqb, ne_eqb, eqb-true, eqb-false, lt-ltb, both_ways, and_parts, and_from, or_cases, or_right}
+use Rattle.deck_core.specs.Words.{has, all_but}
+use Rattle.deck_core.specs.Phases.{is_masters, own_word, is_shut, is_before_opening, is_in_session, is_at_gate, late_of, is_marked, KeepsOldNumber, holds, counts, called}
 use Rattle.deck_core.specs.Told.{Told, IsTold}
-use Rattle.deck_core.specs.Configuration.{Configuration, put, lead_of}
-use Rattle.deck_core.specs.Contract.{Acts, Gives, Changes, CheckGives, sent, in_stage, is_lines, is_pass, is_leaving, comes_back}
-use Rattle.deck_core.specs.Tick.{gives, act_of, check_answer, after_check, after_shut, after_send, first_look, entering, skipping, gathered_after, looks_on, round_over, after_look, mark_counts, enters, pulling, planting, after_enter, enter_answer, line_answer, pass_answer, after_line, passing, after_pass, then_of, after_pull_step}
-use Rattle.deck_core.specs.Invariant.{Sound, TurnAt, HartFits, MarkFits, LeadFits, Working, KeepsInRange, IsOther, LooksFit, LateFits, LeftFits, ThenFits, IsPlanting, PlantedFits, ThenPlants, StepFits, MayPlantStep, StepStands, session_fits, stage_fits, at_master, bit, openings}
+use Rattle.deck_core.specs.Configuration.{Configuration}
+use Rattle.deck_core.specs.Tick.{gives, pulling, after_enter, enter_answer}
+use Rattle.deck_core.specs.Invariant.{Sound, Working, KeepsInRange, LateFits, StepFits, session_fits, stage_fits, bit, openings}
 use Rattle.deck_core.specs.declared.notes.Sitting.{Sitting}
 use Rattle.deck_core.specs.declared.notes.Stage.{Stage}
 use Rattle.deck_core.specs.declared.notes.Stage.TheVariants as stage
 use Rattle.deck_core.specs.declared.phase.Phase.{Phase}
 use Rattle.deck_core.specs.declared.phase.Phase.TheVariants as phase
-use Rattle.deck_core.specs.declared.phase.Place.TheVariants as place
 use Rattle.deck_core.specs.declared.phase.Kept.{Kept}
-use Rattle.deck_core.specs.declared.phase.Looks.{Looks}
 use Rattle.deck_core.specs.declared.phase.Then.{Then}
-use Rattle.deck_core.specs.declared.phase.Then.TheVariants as follow
 use Rattle.deck_core.specs.Contract.{EnterGives, opened, mask_inside}
 use Rattle.deck_core.specs.Laws.{EnterKeeps}
 use Rattle.deck_core.specs.declared.act.Entered.{Entered}
-use Rattle.deck_core.specs.declared.act.Entered.TheVariants as entered
-use Rattle.deck_core.proofs.Masks.{has-zero, has-all_but_inside, all_but-lt, has-below}
-use Rattle.deck_core.proofs.Frame.{Moves, stays, put_moves, Mine, mine, MasterStep, master_moves, master_gives}
+use Rattle.deck_core.proofs.Masks.{has-all_but_inside, all_but-lt, has-below}
+use Rattle.deck_core.proofs.Frame.{stays, Mine, mine, master_gives}
 use Rattle.deck_core.proofs.Transactions.{tick_at, call_keeps}
-use Rattle.deck_core.proofs.Outside.{own_of, no_session}
+use Rattle.deck_core.proofs.Outside.{own_of}
 use Rattle.deck_core.proofs.Elects.{bit_and_false}
 
 -- a phase of a master from the shutting of the gate to its opening, with every other hart called

@@ -1,18 +1,18 @@
 -- Ticks of the pure deck.
-use Rattle.std.proofs.Common.{◌≡◌, ℕ, suc, ◌<◌, ◌≤◌, ◌==◌, ◌&&◌, Bool, true, false, not, Option, Some, None, refl, sym, ◌∙◌, ap, subst, inl, inr, if◌then◌else◌}
+use Rattle.std.proofs.Common.{◌≡◌, ℕ, suc, ◌<◌, ◌==◌, Bool, true, false, not, Some, refl, sym, ◌∙◌, ap, subst, inl, inr, if◌then◌else◌}
 use Rattle.std.proofs.Math.Path.{fun_ext}
 use Rattle.std.proofs.Props.{props}
 use Rattle.std.proofs.Math.Bool.{Bool-set}
 use Rattle.std.proofs.Math.Logic.{∥∥₁_map, ∥∥₁_elim}
 use Rattle.std.proofs.lemmas.Bool.{both_ways, and_left, and_right, and_from, cases_eq, cases_Bool, cond-true, cond-false, not-true, not-false}
 use Rattle.deck_core.specs.Phases.{holds}
-use Rattle.deck_core.specs.Told.{Told, IsTold}
+use Rattle.deck_core.specs.Told.{Told}
 use Rattle.deck_core.specs.Configuration.{Configuration, put}
 use Rattle.deck_core.specs.Contract.{Acts, Does, Changes, LineLeaves, PassLeaves, is_allowed, sent, pulled, replanted, step_planted, step_pulled}
 use Rattle.deck_core.specs.Tick.{tick, tick_in, Ticks, is_transaction, makes_call, act_of, after_answer, peeks, takes, gives, transacts, writes, enters, goes, waits_at, after_gate, tries_master, is_busy, CanGoOn, after_look, mark_counts}
 use Rattle.deck_core.specs.Words.{turn_word, mask_of}
 use Rattle.deck_core.specs.Invariant.{Sound}
-use Rattle.deck_core.specs.Seat.{Seat, seat_of, WholeTicks, clears, after_clear, sees_gate, is_peek, is_answer_of, looks_in}
+use Rattle.deck_core.specs.Seat.{seat_of, WholeTicks, clears, after_clear, sees_gate, is_peek, is_answer_of, looks_in}
 use Rattle.deck_core.specs.declared.phase.Phase.{Phase}
 use Rattle.deck_core.specs.declared.phase.Phase.TheVariants as phase
 use Rattle.deck_core.specs.declared.phase.Place.{Place}
@@ -26,7 +26,7 @@ use Rattle.deck_core.specs.declared.act.Lined.{Lined}
 use Rattle.deck_core.specs.declared.act.Lined.TheVariants as lined
 use Rattle.deck_core.specs.declared.act.Passed.{Passed}
 use Rattle.deck_core.specs.declared.act.Passed.TheVariants as passed
-use Rattle.deck_core.proofs.Frame.{put_same, put_other, Mine, mine}
+use Rattle.deck_core.proofs.Frame.{put_same, put_other, mine}
 use Rattle.deck_core.proofs.Conditions.{call_is_allowed}
 use Rattle.deck_core.proofs.Ticks.{every_tick_keeps}
 

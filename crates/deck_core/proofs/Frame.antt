@@ -1,11 +1,11 @@
 -- What every tick has in common: one hart moves, and the others stay where they are.
-use Rattle.std.proofs.Common.{◌≡◌, ℕ, suc, zero, ◌+◌, ◌-◌, ◌*◌, ◌/◌, ◌%◌, ◌^◌, ◌<◌, ◌≤◌, ◌≢◌, ◌==◌, ◌&&◌, ◌||◌, Bool, true, false, not, nat_lt, refl, sym, ◌∙◌, ap, subst, inl, inr, arith, if◌then◌else◌}
-use Rattle.std.proofs.lemmas.Bool.{cases_eq, cases_lt, cases_Bool, eq-eqb, ne_eqb, eqb-true, eqb-false, true≢false, both_ways, cond-true, cond-false, and_parts, or_right, or_left}
-use Rattle.deck_core.specs.Words.{has, turn_word, mask_of, holder_of}
-use Rattle.deck_core.specs.Phases.{is_masters, own_word, is_finished, is_marked, is_in_session, KeepsOldNumber, WasShut, holds, counts}
+use Rattle.std.proofs.Common.{◌≡◌, ℕ, suc, zero, ◌^◌, ◌<◌, ◌≤◌, ◌==◌, ◌||◌, Bool, true, false, not, refl, sym, ◌∙◌, ap, subst, inl, inr, arith}
+use Rattle.std.proofs.lemmas.Bool.{cases_eq, eq-eqb, ne_eqb, eqb-true, both_ways, cond-true, cond-false, and_parts, or_right, or_left}
+use Rattle.deck_core.specs.Words.{has, mask_of, holder_of}
+use Rattle.deck_core.specs.Phases.{is_masters, own_word, is_finished, is_marked, is_in_session, KeepsOldNumber, holds, counts}
 use Rattle.deck_core.specs.Told.{Told, IsTold}
 use Rattle.deck_core.specs.Configuration.{Configuration, put, lead_of}
-use Rattle.deck_core.specs.Invariant.{Sound, TurnAt, SeenFree, HartFits, MarkFits, LeadFits}
+use Rattle.deck_core.specs.Invariant.{Sound, TurnAt, HartFits, MarkFits, LeadFits}
 use Rattle.deck_core.specs.declared.phase.Phase.{Phase}
 use Rattle.deck_core.specs.declared.phase.Phase.TheVariants as phase
 use Rattle.deck_core.specs.declared.phase.Place.{Place}

@@ -1,10 +1,8 @@
 -- The opening configuration is sound.
-use Rattle.std.proofs.Common.{◌≡◌, ℕ, suc, zero, ◌+◌, ◌<◌, ◌≤◌, ◌^◌, Bool, true, false, refl, sym, ◌∙◌, ap, subst, arith, Option, Some, None}
-use Rattle.std.proofs.lemmas.Bool.{ne_eqb, true≢false, both_ways}
-use Rattle.deck_core.specs.Words.{has, mask_of, holder_of}
-use Rattle.deck_core.specs.Told.{Told, IsTold, IsOpening}
-use Rattle.deck_core.specs.Configuration.{Configuration, opening}
-use Rattle.deck_core.specs.Invariant.{Sound, session_fits}
+use Rattle.std.proofs.Common.{suc, false, refl, sym, ◌∙◌, ap, arith}
+use Rattle.std.proofs.lemmas.Bool.{ne_eqb, both_ways}
+use Rattle.deck_core.specs.Words.{has}
+use Rattle.deck_core.specs.Invariant.{session_fits}
 use Rattle.deck_core.specs.Laws.{OpeningIsSound}
 use Rattle.deck_core.specs.declared.phase.Phase.TheVariants as phase
 use Rattle.deck_core.proofs.Masks.{has-zero, mask_of-small, holder_of-small}

@@ -1,19 +1,18 @@
 -- The phases outside a master's, but Run, and the way to become the master.
-use Rattle.std.proofs.Common.{◌≡◌, ℕ, suc, zero, ◌+◌, ◌-◌, ◌*◌, ◌/◌, ◌%◌, ◌^◌, ◌<◌, ◌≤◌, ◌≢◌, ◌==◌, ◌&&◌, ◌||◌, Bool, true, false, not, nat_lt, refl, sym, ◌∙◌, ap, subst, inl, inr, arith, if◌then◌else◌, Option, Some, None}
-use Rattle.std.proofs.lemmas.Bool.{cases_eq, cases_lt, cases_Bool, eq-eqb, ne_eqb, eqb-true, eqb-false, both_ways, and_parts}
+use Rattle.std.proofs.Common.{◌≡◌, ℕ, suc, ◌%◌, ◌<◌, ◌==◌, ◌&&◌, Bool, true, false, not, refl, sym, ◌∙◌, ap, subst, arith, if◌then◌else◌, Option, Some, None}
+use Rattle.std.proofs.lemmas.Bool.{eq-eqb, ne_eqb, eqb-true, eqb-false, both_ways, and_parts}
 use Rattle.deck_core.specs.Words.{has}
-use Rattle.deck_core.specs.Phases.{is_masters, own_word, is_finished, is_in_session, late_of, is_marked, KeepsOldNumber, WasShut, holds, counts}
-use Rattle.deck_core.specs.Told.{Told, IsTold}
+use Rattle.deck_core.specs.Phases.{is_masters, own_word, is_in_session, late_of, is_marked, KeepsOldNumber, WasShut}
 use Rattle.deck_core.specs.Configuration.{Configuration, put, lead_of}
-use Rattle.deck_core.specs.Tick.{tick_in, answers_call, waits_at, tries_master, enters}
-use Rattle.deck_core.specs.Invariant.{Sound, HartFits, MarkFits, LeadFits, Working, session_fits, stage_fits}
+use Rattle.deck_core.specs.Tick.{enters}
+use Rattle.deck_core.specs.Invariant.{Sound, LeadFits, session_fits, stage_fits}
 use Rattle.deck_core.specs.Laws.{CalledKeeps, MarkKeeps, ParkedKeeps, UnmarkKeeps, WishKeeps, WantKeeps, FinishedKeeps}
 use Rattle.deck_core.specs.declared.notes.Sitting.{Sitting}
 use Rattle.deck_core.specs.declared.notes.Stage.{Stage}
 use Rattle.deck_core.specs.declared.phase.Phase.{Phase}
 use Rattle.deck_core.specs.declared.phase.Phase.TheVariants as phase
 use Rattle.deck_core.proofs.Masks.{has-zero}
-use Rattle.deck_core.proofs.Frame.{Moves, stays, put_moves, put_same, OtherStep, other_moves, Step, moved, lead_here}
+use Rattle.deck_core.proofs.Frame.{stays, put_moves, put_same, other_moves, moved}
 use Rattle.deck_core.proofs.Transactions.{tick_at}
 
 -- a hart in this phase has this own word

@@ -1,20 +1,20 @@
 -- The phase Run: the step of a hart outside a session changes nothing that the master relies on.
-use Rattle.std.proofs.Common.{◌≡◌, ℕ, suc, zero, ◌+◌, ◌-◌, ◌*◌, ◌/◌, ◌%◌, ◌^◌, ◌<◌, ◌≤◌, ◌≢◌, ◌==◌, ◌&&◌, ◌||◌, Bool, true, false, not, nat_lt, refl, sym, ◌∙◌, ap, subst, inl, inr, arith, if◌then◌else◌, Option, Some, None}
-use Rattle.std.proofs.lemmas.Bool.{cases_eq, cases_lt, cases_Bool, eq-eqb, ne_eqb, eqb-true, eqb-false, both_ways, and_parts, or_cases, or_left, or_right, false_from_ne_true}
+use Rattle.std.proofs.Common.{◌≡◌, ℕ, suc, zero, ◌≤◌, ◌==◌, ◌&&◌, Bool, true, false, not, refl, sym, ◌∙◌, ap, subst, inl, inr, arith, Option, Some, None}
+use Rattle.std.proofs.lemmas.Bool.{ne_eqb, eqb-true, eqb-false, both_ways, and_parts, or_cases, or_left, or_right, false_from_ne_true}
 use Rattle.deck_core.specs.Words.{has}
-use Rattle.deck_core.specs.Phases.{is_masters, own_word, is_finished, is_in_session, is_marked, KeepsOldNumber, holds, is_at_gate, late_of, has_read}
+use Rattle.deck_core.specs.Phases.{is_masters, own_word, is_finished, KeepsOldNumber, holds, is_at_gate, late_of}
 use Rattle.deck_core.specs.Told.{Told, IsTold}
-use Rattle.deck_core.specs.Configuration.{Configuration, put, lead_of}
-use Rattle.deck_core.specs.Contract.{HartStepGives, is_off, in_session, is_of, Acts}
-use Rattle.deck_core.specs.Tick.{after_step, gives, act_of, step_answer}
-use Rattle.deck_core.specs.Invariant.{Sound, HartFits, MarkFits, LeadFits, Working, session_fits, stage_fits, StepFits, at_master, bit, openings}
+use Rattle.deck_core.specs.Configuration.{Configuration, lead_of}
+use Rattle.deck_core.specs.Contract.{HartStepGives, is_off, in_session, is_of}
+use Rattle.deck_core.specs.Tick.{after_step, gives, step_answer}
+use Rattle.deck_core.specs.Invariant.{Sound, LeadFits, Working, session_fits, stage_fits, StepFits, at_master, bit}
 use Rattle.deck_core.specs.Laws.{RunKeeps}
 use Rattle.deck_core.specs.declared.notes.Sitting.{Sitting}
 use Rattle.deck_core.specs.declared.phase.Phase.{Phase}
 use Rattle.deck_core.specs.declared.phase.Phase.TheVariants as phase
 use Rattle.deck_core.specs.declared.act.Turned.{Turned}
 use Rattle.deck_core.specs.declared.act.Turned.TheVariants as turned
-use Rattle.deck_core.proofs.Frame.{Moves, stays, OtherStep, other_gives}
+use Rattle.deck_core.proofs.Frame.{stays, other_gives}
 use Rattle.deck_core.proofs.Transactions.{tick_at, call_keeps}
 use Rattle.deck_core.proofs.Outside.{own_of, unmarked}
 

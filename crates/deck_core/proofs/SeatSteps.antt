@@ -1,10 +1,10 @@
 -- A write to an array is a change of the function that reads it.
-use Rattle.std.proofs.Common.{◌≡◌, ℕ, ◌<◌, ◌≤◌, List, length, get_or, set, replicate, refl, sym, ◌∙◌, ap, subst, inl, inr}
+use Rattle.std.proofs.Common.{◌≡◌, ℕ, ◌<◌, ◌≤◌, List, length, get_or, set, replicate, sym, ◌∙◌, ap, subst, inl, inr}
 use Rattle.std.proofs.Math.Path.{fun_ext}
 use Rattle.std.proofs.lemmas.Bool.{cases_eq, cases_lt}
 use Rattle.std.proofs.lemmas.List.{get_or-set_same, get_or-set_other, get_or-replicate, get_or_past, length-replicate}
 use Rattle.deck_core.specs.Told.{Told}
-use Rattle.deck_core.specs.Configuration.{Configuration, put, opening}
+use Rattle.deck_core.specs.Configuration.{put, opening}
 use Rattle.deck_core.specs.Seats.{configuration_of}
 use Rattle.deck_core.specs.Tick.{enters, writes, goes, gives}
 use Rattle.deck_core.specs.declared.phase.Phase.{Phase}

@@ -1,13 +1,9 @@
 -- Every tick keeps the invariant, and so does every list of ticks.
-use Rattle.std.proofs.Common.{◌≡◌, ℕ, suc, zero, ◌+◌, ◌<◌, ◌≤◌, Bool, true, false, List, [], ◌∷◌, refl, sym, ◌∙◌, ap, subst, arith}
-use Rattle.deck_core.specs.Told.{Told, IsTold, IsOpening}
-use Rattle.deck_core.specs.Configuration.{Configuration, opening}
-use Rattle.deck_core.specs.Tick.{tick, Ticks, TicksAll}
+use Rattle.std.proofs.Common.{[], ◌∷◌, refl, sym, subst}
 use Rattle.deck_core.specs.Invariant.{Sound}
 use Rattle.deck_core.specs.Laws.{KeepsIn, EveryTickKeeps, EveryPlanKeeps}
 use Rattle.deck_core.specs.declared.phase.Phase.{Phase}
 use Rattle.deck_core.specs.declared.phase.Phase.TheVariants as phase
-use Rattle.deck_core.proofs.Opening.{opening_is_sound}
 use Rattle.deck_core.proofs.Outside.{called_keeps, mark_keeps, parked_keeps, unmark_keeps, wish_keeps, want_keeps, finished_keeps}
 use Rattle.deck_core.proofs.Runs.{run_keeps}
 use Rattle.deck_core.proofs.Elects.{own_keeps, shut_keeps, send_keeps}

@@ -1,18 +1,16 @@
 -- The load of the turn word and its compare and exchange, in any phase; and from a tick in a phase to a tick.
-use Rattle.std.proofs.Common.{◌≡◌, ℕ, suc, zero, ◌+◌, ◌-◌, ◌*◌, ◌/◌, ◌%◌, ◌^◌, ◌<◌, ◌≤◌, ◌≢◌, ◌==◌, ◌&&◌, ◌||◌, Bool, true, false, not, nat_lt, refl, sym, ◌∙◌, ap, subst, inl, inr, arith, if◌then◌else◌}
-use Rattle.std.proofs.lemmas.Bool.{cases_eq, cases_lt, cases_Bool, eq-eqb, ne_eqb, eqb-true, eqb-false, true≢false, both_ways, cond-true, cond-false, cond_both, and_parts, or_right, or_left, or_parts, not-false}
+use Rattle.std.proofs.Common.{◌≡◌, ℕ, suc, ◌==◌, ◌&&◌, Bool, true, false, not, refl, sym, ◌∙◌, ap, subst, inl, inr, arith, if◌then◌else◌}
+use Rattle.std.proofs.lemmas.Bool.{cases_Bool, eq-eqb, ne_eqb, eqb-true, or_parts, not-false}
 use Rattle.deck_core.specs.Words.{has, turn_word, mask_of, holder_of}
 use Rattle.deck_core.specs.Phases.{holds, is_in_session}
-use Rattle.deck_core.specs.Told.{Told, IsTold}
-use Rattle.deck_core.specs.Configuration.{Configuration, put, lead_of}
+use Rattle.deck_core.specs.Told.{Told}
+use Rattle.deck_core.specs.Configuration.{Configuration, put}
 use Rattle.deck_core.specs.Contract.{Acts}
 use Rattle.deck_core.specs.Tick.{tick, tick_in, peeks, takes, goes, is_busy, transacts, act_of, makes_call, is_transaction, gives, after_answer}
-use Rattle.deck_core.specs.Invariant.{Sound, TurnAt, SeenFree, HartFits, MarkFits, LeadFits}
+use Rattle.deck_core.specs.Invariant.{Sound, TurnAt, SeenFree}
 use Rattle.deck_core.specs.declared.phase.Phase.{Phase}
-use Rattle.deck_core.specs.declared.phase.Phase.TheVariants as phase
 use Rattle.deck_core.specs.declared.phase.Place.{Place}
 use Rattle.deck_core.specs.declared.phase.Place.TheVariants as place
-use Rattle.deck_core.specs.declared.act.Act.{Act}
 use Rattle.deck_core.specs.declared.act.Answer.{Answer}
 use Rattle.deck_core.proofs.Masks.{mask_of-lt, mask_of-turn_word, holder_of-turn_word}
 use Rattle.deck_core.proofs.Frame.{put_moves, at_each}

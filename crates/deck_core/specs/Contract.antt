@@ -1,5 +1,5 @@
 -- The contract of a bus: when each call is allowed, and what it does to what the bus tells.
-use Rattle.std.specs.Prelude.{◌≡◌, ℕ, suc, ◌+◌, ◌-◌, ◌*◌, ◌^◌, ◌<◌, ◌≤◌, ◌==◌, ◌&&◌, ◌||◌, Bool, true, false, not, nat_lt, Option, Some, None, is_some, is_none, if◌then◌else◌}
+use Rattle.std.specs.Prelude.{◌≡◌, ℕ, suc, ◌-◌, ◌*◌, ◌^◌, ◌==◌, ◌&&◌, ◌||◌, Bool, true, false, not, nat_lt, Option, Some, None, is_some, is_none, if◌then◌else◌}
 use Rattle.mach_base.specs.declared.event.Reason.{Reason}
 use Rattle.deck_core.specs.Words.{has, mask_with, mask_without, all_but}
 use Rattle.deck_core.specs.Told.{Told, IsTold}

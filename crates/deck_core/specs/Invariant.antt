@@ -1,9 +1,29 @@
--- The invariant of the protocol.
-use Rattle.std.specs.Prelude.{◌≡◌, ℕ, suc, zero, ◌+◌, ◌-◌, ◌*◌, ◌/◌, ◌%◌, ◌^◌, ◌<◌, ◌≤◌, ◌≢◌, ◌==◌, ◌&&◌, ◌||◌, Bool, true, false, not, nat_lt, Option, Some, None, is_some, is_none, if◌then◌else◌}
+-- The invariant of the protocol. In plain words, m being the hart that the master word names, if any:
+--
+-- 1. Turn. The turn's holder is the one hart that stands before its call, or none; the turn word's mask is the bus's; a
+--    word that was seen before a take has no holder (`Sound.mask`, `TurnAt`).
+-- 2. Own word. A hart's own word is what its phase says; a hart is finished only where an ending stands (`HartFits`).
+-- 3. Master. The master word names a hart exactly where that hart is in a master's phase (`HartFits.masters`).
+-- 4. Gate. Its number is odd exactly where m is past Shut and not past OpenGate (`LeadFits.parity`).
+-- 5. Old numbers. The number that a hart keeps is one at which the gate was shut (`HartFits.old_number`).
+-- 6. Gathered. The mark of each hart that m counts as gathered counts; the late harts are the others but m
+--    (`MarkFits.gathered`, `LateFits`).
+-- 7. Mask. Each hart in it is m, or its mark counts; it is empty but in a session (`MarkFits.masked`, `LeadFits.mask`).
+-- 8. Session. Where no ending stands, one is open exactly where m's phase says so. It is m's, with the late harts that m
+--    keeps, in a stage of that phase (`Working.session`).
+-- 9. Planted. Where no ending stands, what is planted follows from m's phase (`Working.planted`).
+-- 10. Trap. From Shut to the opening of its session m has a trap, or an ending stands (`LeadFits.trap`).
+-- 11. Step word. Where no ending stands, it stands exactly in PullStep and in a PassStep that follows PlantStep, at m's
+--     next address (`Working.step`).
+-- 12. Numbers. The gate was opened at most as often as lines were read, and once more after an ending; each opening has
+--     its calls (`LeadFits.lines`, `LeadFits.sends`, `Working.read`).
+--
+-- Besides, what a phase keeps is in range (`KeepsInRange`), and so is what the bus tells (`IsTold`).
+use Rattle.std.specs.Prelude.{◌≡◌, ℕ, suc, zero, ◌+◌, ◌-◌, ◌*◌, ◌/◌, ◌%◌, ◌^◌, ◌<◌, ◌≤◌, ◌==◌, ◌&&◌, ◌||◌, Bool, true, false, not, Option, Some, None, is_some, if◌then◌else◌}
 use Rattle.deck_core.specs.Words.{has, mask_of, holder_of}
 use Rattle.deck_core.specs.Phases.{is_masters, own_word, is_finished, is_shut, is_before_opening, is_in_session, has_read, is_at_gate, late_of, is_marked, KeepsOldNumber, counts, called, holds}
 use Rattle.deck_core.specs.Told.{Told, IsTold}
-use Rattle.deck_core.specs.Contract.{is_lines, is_pass, is_leaving, comes_back, is_of}
+use Rattle.deck_core.specs.Contract.{is_lines, is_pass, is_leaving, comes_back}
 use Rattle.deck_core.specs.Configuration.{Configuration, lead_of}
 use Rattle.deck_core.specs.declared.phase.Phase.{Phase}
 use Rattle.deck_core.specs.declared.phase.Phase.TheVariants as phase

@@ -1,5 +1,5 @@
 -- What is known of a hart by its phase alone.
-use Rattle.std.specs.Prelude.{◌≡◌, ℕ, ◌+◌, ◌-◌, ◌%◌, ◌<◌, ◌≤◌, ◌==◌, ◌&&◌, ◌||◌, Bool, true, false, not, nat_lt, suc, if◌then◌else◌}
+use Rattle.std.specs.Prelude.{◌≡◌, ℕ, ◌-◌, ◌%◌, ◌<◌, ◌≤◌, ◌==◌, ◌&&◌, Bool, true, false, not, nat_lt, if◌then◌else◌}
 use Rattle.deck_core.specs.Words.{has}
 use Rattle.deck_core.specs.declared.phase.Phase.{Phase}
 use Rattle.deck_core.specs.declared.phase.Phase.TheVariants as phase

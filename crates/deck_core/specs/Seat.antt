@@ -13,7 +13,6 @@ use Rattle.deck_core.specs.declared.act.Act.{Act}
 use Rattle.deck_core.specs.declared.act.Act.TheVariants as act
 use Rattle.deck_core.specs.declared.act.Answer.{Answer}
 use Rattle.deck_core.specs.declared.act.Answer.TheVariants as answer
-use Rattle.deck_core.specs.declared.act.Turned.{Turned}
 use Rattle.deck_core.specs.declared.act.Turned.TheVariants as turned
 
 -- the hart's number; the number of rounds after which a gathering ends, and that of harts; the hart's phase and place;

@@ -1,7 +1,6 @@
 -- What a bus tells, and the laws of it.
-use Rattle.std.specs.Prelude.{◌≡◌, ℕ, ◌^◌, ◌<◌, ◌≤◌, ◌==◌, Bool, true, false, Option, Some, None}
+use Rattle.std.specs.Prelude.{◌≡◌, ℕ, ◌^◌, ◌<◌, ◌≤◌, Bool, false, Option, None}
 use Rattle.deck_core.specs.declared.notes.Sitting.{Sitting}
-use Rattle.deck_core.specs.declared.notes.Stage.{Stage}
 use Rattle.deck_core.specs.declared.notes.Notes.{Notes}
 
 -- the number of harts; the mask of the harts that the session has stopped; the masks of the planted and of the enabled

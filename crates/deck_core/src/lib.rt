@@ -1,4 +1,24 @@
-//! The protocol by which harts elect a master and enter the debugger, as a pure machine.
+//! The protocol by which harts elect a master, gather the others and enter the debugger, as a pure machine: it knows no
+//! memory, no command and no thread.
+//!
+//! - A *bus* (`Bus`) is the machine that the harts share. One hart at a time may call it: the holder of the *turn*.
+//! - A *transaction* is one call of the bus by the steps load, compare and exchange, call. A hart's `Place` is its place
+//!   in one.
+//! - A hart's *phase* (`Phase`) is what it does next. The phases from `Own` to `Free` are those of the *master*.
+//! - The *gate* is a number, odd while it is shut. A hart that was called marks itself with the odd number that it saw,
+//!   and waits until the gate has another one. The harts that the master didn't find marked are *late*.
+//! - A *configuration* (specs/Configuration.antt) is the shared words, each hart's phase and place, and what the bus
+//!   tells; a *tick* (specs/Tick.antt) is one hart's next step.
+//! - The *invariant* is `Sound` of specs/Invariant.antt.
+//!
+//! What is proved: the opening configuration meets the invariant, and each tick of each hart, in each phase and with every
+//! bus that keeps its contract, keeps it (`laws`). So does every list of ticks. From the invariant follow the condition
+//! of each call of the bus, that at most one hart is in a master's phase, that no hart runs which the session has stopped,
+//! that sessions never overlap, and that the gate's number stays small (`facts`). The calls of the pure deck (`Flat`) are
+//! exactly the ticks of the selected hart. Nothing is claimed of progress: that a gathering finds every hart, or that a
+//! hart ever gets the turn.
+//!
+//! It stands on `mach_base`. The program of a hart, the board of shared words and the machine's core stand on it.
 #![tactic(auto)]
 
 mod act;
@@ -42,7 +62,7 @@ pub use next_phase::{
 pub use notes::{Notes, Sitting, Stage};
 pub use pause::{Counted, Pause};
 pub use phase::{Kept, Looks, Phase, Place, Then};
-pub use words::Words;
+pub use words::{Words, holder_of, is_busy, is_in_session, mask_of, turn_word};
 
 #[cfg(test)]
 mod tests;

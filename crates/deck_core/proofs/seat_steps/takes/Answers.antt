@@ -1,4 +1,4 @@
-use Rattle.std.proofs.Common.{◌≡◌, ◌==◌, suc, sym, ◌∙◌, ap}
+use Rattle.std.proofs.Common.{◌==◌, suc, sym, ◌∙◌, ap}
 use Rattle.std.proofs.lemmas.Bool.{cond-true, cond-false, eq-eqb, ne_eqb}
 use Rattle.deck_core.specs.Words.{turn_word, mask_of}
 use Rattle.deck_core.specs.Configuration.{Configuration, put}

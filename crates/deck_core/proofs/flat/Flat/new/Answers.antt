@@ -1,6 +1,5 @@
-use Rattle.std.proofs.Common.{◌≡◌, ◌<◌, Some, ap, sym, subst, arith}
+use Rattle.std.proofs.Common.{Some, ap, sym, subst, arith}
 use Rattle.deck_core.specs.Told.{Told}
-use Rattle.deck_core.specs.Configuration.{Configuration, opening}
 use Rattle.deck_core.specs.Invariant.{Sound}
 use Rattle.deck_core.proofs.SeatSteps.{opening_seats}
 use Rattle.deck_core.proofs.Opening.{opening_is_sound}

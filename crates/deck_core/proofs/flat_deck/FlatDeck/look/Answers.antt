@@ -1,12 +1,10 @@
-use Rattle.std.proofs.Common.{◌≡◌, ℕ, suc, ◌==◌, refl, sym, ◌∙◌, ap}
+use Rattle.std.proofs.Common.{◌≡◌, ℕ, sym, ◌∙◌, ap}
 use Rattle.deck_core.specs.Told.{Told}
-use Rattle.deck_core.specs.Configuration.{Configuration, put}
+use Rattle.deck_core.specs.Configuration.{Configuration}
 use Rattle.deck_core.specs.Seats.{configuration_of}
-use Rattle.deck_core.specs.Tick.{Ticks, turns_gate, after_shut, after_look, enters}
-use Rattle.deck_core.specs.Seat.{after_clear}
+use Rattle.deck_core.specs.Tick.{after_look, enters}
 use Rattle.deck_core.specs.declared.phase.Looks.{Looks}
-use Rattle.deck_core.specs.declared.phase.Phase.TheVariants as phase
-use Rattle.deck_core.proofs.Flats.{quiet, sound_on, whole_on, seat_moved, look_ticks, look_seat}
+use Rattle.deck_core.proofs.Flats.{sound_on, whole_on, look_ticks, look_seat}
 use Rattle.deck_core.proofs.flat_deck.FlatDeck.look.Goals as goal
 
 pub invariant_of-self : goal.invariant_of-self

@@ -1,11 +1,8 @@
-use Rattle.std.proofs.Common.{◌≡◌, ℕ, not, refl, sym, ◌∙◌, ap}
+use Rattle.std.proofs.Common.{◌≡◌, ℕ, not, sym, ◌∙◌, ap}
 use Rattle.deck_core.specs.Told.{Told}
-use Rattle.deck_core.specs.Configuration.{Configuration, put}
+use Rattle.deck_core.specs.Configuration.{Configuration}
 use Rattle.deck_core.specs.Seats.{configuration_of}
 use Rattle.deck_core.specs.Tick.{peeks, is_busy}
-use Rattle.deck_core.specs.Seat.{after_clear}
-use Rattle.deck_core.specs.declared.phase.Phase.{Phase}
-use Rattle.deck_core.specs.declared.phase.Phase.TheVariants as phase
 use Rattle.deck_core.proofs.Flats.{sound_on, whole_on, peek_ticks, peek_seen, peek_busy}
 use Rattle.std.proofs.lemmas.Bool.{OnTrue_from, OnFalse_from}
 use Rattle.deck_core.proofs.flat_deck.FlatDeck.peek_turn.Goals as goal

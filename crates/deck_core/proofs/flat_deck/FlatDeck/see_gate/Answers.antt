@@ -1,12 +1,10 @@
-use Rattle.std.proofs.Common.{◌≡◌, ℕ, suc, ◌==◌, refl, sym, ◌∙◌, ap}
+use Rattle.std.proofs.Common.{◌≡◌, ℕ, refl, ◌∙◌, ap}
 use Rattle.deck_core.specs.Told.{Told}
-use Rattle.deck_core.specs.Configuration.{Configuration, put}
+use Rattle.deck_core.specs.Configuration.{Configuration}
 use Rattle.deck_core.specs.Seats.{configuration_of}
-use Rattle.deck_core.specs.Tick.{Ticks, turns_gate, after_shut, after_gate, writes, enters}
-use Rattle.deck_core.specs.Seat.{after_clear}
+use Rattle.deck_core.specs.Tick.{after_gate, enters}
 use Rattle.deck_core.specs.declared.phase.Phase.{Phase}
-use Rattle.deck_core.specs.declared.phase.Phase.TheVariants as phase
-use Rattle.deck_core.proofs.Flats.{quiet, sound_on, whole_on, seat_moved, clear_ticks, gate_ticks, try_seat}
+use Rattle.deck_core.proofs.Flats.{sound_on, whole_on, seat_moved, gate_ticks}
 use Rattle.deck_core.proofs.flat_deck.FlatDeck.see_gate.Goals as goal
 
 pub invariant_of-self : goal.invariant_of-self

@@ -1,11 +1,8 @@
-use Rattle.std.proofs.Common.{◌≡◌, ℕ, suc, ◌==◌, refl, sym, ◌∙◌, ap}
+use Rattle.std.proofs.Common.{◌≡◌, ℕ, sym}
 use Rattle.deck_core.specs.Told.{Told}
-use Rattle.deck_core.specs.Configuration.{Configuration, put}
+use Rattle.deck_core.specs.Configuration.{Configuration}
 use Rattle.deck_core.specs.Seats.{configuration_of}
 use Rattle.deck_core.specs.Tick.{takes}
-use Rattle.deck_core.specs.Seat.{after_clear}
-use Rattle.deck_core.specs.declared.phase.Phase.{Phase}
-use Rattle.deck_core.specs.declared.phase.Phase.TheVariants as phase
 use Rattle.deck_core.proofs.Flats.{sound_on, whole_on, take_ticks, take_seat}
 use Rattle.deck_core.proofs.flat_deck.FlatDeck.take_turn.Goals as goal
 
