@@ -12,7 +12,7 @@ use Rattle.deck_core.specs.Contract.{Acts, Does, Changes, LineLeaves, PassLeaves
 use Rattle.deck_core.specs.Tick.{tick, tick_in, Ticks, is_transaction, makes_call, act_of, after_answer, peeks, takes, gives, transacts, writes, enters, goes, waits_at, after_gate, tries_master, is_busy, CanGoOn, after_look, mark_counts}
 use Rattle.deck_core.specs.Words.{turn_word, mask_of}
 use Rattle.deck_core.specs.Invariant.{Sound}
-use Rattle.deck_core.specs.Seat.{seat_of, WholeTicks, clears, after_clear, sees_gate, is_peek, is_answer_of, looks_in}
+use Rattle.deck_core.specs.Seat.{seat_of, WholeTicks, WholeGives, clears, after_clear, sees_gate, is_peek, is_answer_of, looks_in}
 use Rattle.deck_core.specs.declared.phase.Phase.{Phase}
 use Rattle.deck_core.specs.declared.phase.Phase.TheVariants as phase
 use Rattle.deck_core.specs.declared.phase.Place.{Place}
@@ -264,3 +264,27 @@ pub look_seat : (c next : Configuration) (h : ℕ) (looks : Looks) (result idle 
 look_seat c next h looks result idle e n =
     seat_moved c next h c.master c.gate c.own (after_look c.limit c.told.harts h looks result) idle n
     ∙ ap (λ p. record (seat_of h idle c) { phase = after_look c.limit c.told.harts h (looks_in p) result; idle = false }) (sym e)
+
+-- the same move to a phase that is known by an equation
+pub gives_to : (c next : Configuration) (h : ℕ) (p q : Phase) (after : Told) → next ≡ gives h q after c → q ≡ p → next ≡ gives h p after c
+gives_to c next h p q after n e = n ∙ ap (λ x. gives h x after c) e
+
+pub enters_to : (c next : Configuration) (h : ℕ) (p q : Phase) → next ≡ enters h q c → q ≡ p → next ≡ enters h p c
+enters_to c next h p q n e = n ∙ ap (λ x. enters h x c) e
+
+-- the phase after the answer, as the code finds it
+pub answered : (harts n h : ℕ) (p q next : Phase) (a : Answer) → next ≡ after_answer n h q a → n ≡ harts → q ≡ p → next ≡ after_answer harts h p a
+answered harts n h p q next a e en eq = e ∙ (ap (λ x. after_answer x h q a) en ∙ ap (λ x. after_answer harts h x a) eq)
+
+-- the phase after a look, as the code finds it
+pub looked_at : (limit harts n h : ℕ) (looks : Looks) (result : Bool) (next : Phase) → next ≡ after_look limit n h looks result → n ≡ harts → next ≡ after_look limit harts h looks result
+looked_at limit harts n h looks result next e en = e ∙ ap (λ x. after_look limit x h looks result) en
+
+-- the seat after the call, with what was found of the answer
+pub give_seat_idle : (c next : Configuration) (h : ℕ) (p : Phase) (after : Told) (now was idle : Bool) → after.harts ≡ c.told.harts → next ≡ gives h p after c → now ≡ was → seat_of h now next ≡ record (seat_of h idle c) { phase = p; place = place.Peek; idle = was }
+give_seat_idle c next h p after now was idle harts n e =
+    give_seat c next h p after now idle harts n ∙ ap (λ i. record (seat_of h idle c) { phase = p; place = place.Peek; idle = i }) e
+
+-- the whole configuration over the call
+pub whole_gives : (c next : Configuration) (h : ℕ) (a : Answer) (after : Told) → is_transaction (c.phase h) ≡ true → holds (c.place h) ≡ true → Acts (act_of h (c.phase h)) c.told a after → next ≡ gives h (after_answer c.told.harts h (c.phase h) a) after c → WholeGives h a (Some c) (Some next)
+whole_gives c next h a after t e acts n = (after, (acts, ap Some (n ∙ sym (give_tick c h a after t e))))

@@ -1,15 +1,14 @@
-use Rattle.std.proofs.Common.{◌≡◌, ℕ, ◌<◌, ◌≤◌, Some, sym, ◌∙◌, ap, subst}
+use Rattle.std.proofs.Common.{◌≡◌, ℕ, ◌<◌, ◌≤◌, sym, subst}
 use Rattle.std.specs.Prelude.{IsTrue}
 use Rattle.deck_core.specs.Told.{Told}
 use Rattle.deck_core.specs.Configuration.{Configuration}
 use Rattle.deck_core.specs.Contract.{Acts, is_allowed}
 use Rattle.deck_core.specs.Seats.{configuration_of}
-use Rattle.deck_core.specs.Seat.{seat_of}
+use Rattle.deck_core.specs.Seat.{is_idle}
 use Rattle.deck_core.specs.Tick.{act_of, after_answer, gives, CanGoOn}
 use Rattle.deck_core.specs.declared.phase.Phase.{Phase}
-use Rattle.deck_core.specs.declared.phase.Place.TheVariants as place
 use Rattle.deck_core.specs.declared.act.Answer.{Answer}
-use Rattle.deck_core.proofs.Flats.{sound_on, give_tick, give_ticks, give_seat, acts_harts, acts_answer, allowed_here, goes_on_here}
+use Rattle.deck_core.proofs.Flats.{sound_on, give_ticks, give_seat_idle, whole_gives, gives_to, answered, acts_harts, acts_answer, allowed_here, goes_on_here}
 use Rattle.deck_core.proofs.flat_deck.FlatDeck.give.Goals as goal
 
 pub call-answer-requires : goal.call-answer-requires
@@ -40,13 +39,12 @@ invariant_of-self g c =
     let acts : Acts (act_of h (old.phase h)) b a b2 = subst (λ x. Acts x b a b2) c.requires.own_call c.call-answer.ensures.acts in
     let harts : b2.harts ≡ b.harts = acts_harts (act_of h (old.phase h)) b b2 a acts.does in
     let leads : c.after_answer-next.result ≡ p =
-    c.after_answer-next.ensures ∙ (ap (λ n. after_answer n h c.phase_of-phase.result a) c.harts-harts.ensures ∙ ap (λ q. after_answer b.harts h q a) c.phase_of-phase.ensures) in
-    let moves : next ≡ gives h p b2 old = c.gives.ensures s.limit b b2 c.mask-mask.ensures ∙ ap (λ q. gives h q b2 old) leads in
+      answered b.harts c.harts-harts.result h (old.phase h) c.phase_of-phase.result c.after_answer-next.result a c.after_answer-next.ensures c.harts-harts.ensures c.phase_of-phase.ensures in
+    let moves : next ≡ gives h p b2 old = gives_to old next h p c.after_answer-next.result b2 (c.gives.ensures s.limit b b2 c.mask-mask.ensures) leads in
     record {
       selected_is_one = subst (λ n. h < n) (sym harts) s.selected_is_one;
       few = subst (λ n. n ≤ 32) (sym harts) s.few;
-      sound = sound_on old next h s.sound s.selected_is_one (give_ticks old next h a b2 c.requires.phase c.requires.place acts moves);
-    }
+      sound = sound_on old next h s.sound s.selected_is_one (give_ticks old next h a b2 c.requires.phase c.requires.place acts moves) }
 
 pub returns-clause-answer : goal.returns-clause-answer
 returns-clause-answer g c =
@@ -65,10 +63,9 @@ returns-clause-seat g c =
     let acts : Acts (act_of h (old.phase h)) b a b2 = subst (λ x. Acts x b a b2) c.requires.own_call c.call-answer.ensures.acts in
     let harts : b2.harts ≡ b.harts = acts_harts (act_of h (old.phase h)) b b2 a acts.does in
     let leads : c.after_answer-next.result ≡ p =
-    c.after_answer-next.ensures ∙ (ap (λ n. after_answer n h c.phase_of-phase.result a) c.harts-harts.ensures ∙ ap (λ q. after_answer b.harts h q a) c.phase_of-phase.ensures) in
-    let moves : next ≡ gives h p b2 old = c.gives.ensures s.limit b b2 c.mask-mask.ensures ∙ ap (λ q. gives h q b2 old) leads in
-    give_seat old next h p b2 c.is_idle-self.result s.idle harts moves
-    ∙ ap (λ i. record (seat_of h s.idle old) { phase = p; place = place.Peek; idle = i }) c.is_idle-self.ensures
+      answered b.harts c.harts-harts.result h (old.phase h) c.phase_of-phase.result c.after_answer-next.result a c.after_answer-next.ensures c.harts-harts.ensures c.phase_of-phase.ensures in
+    let moves : next ≡ gives h p b2 old = gives_to old next h p c.after_answer-next.result b2 (c.gives.ensures s.limit b b2 c.mask-mask.ensures) leads in
+    give_seat_idle old next h p b2 c.is_idle-self.result (is_idle a) s.idle harts moves c.is_idle-self.ensures
 
 pub returns-clause-ticks : goal.returns-clause-ticks
 returns-clause-ticks g c =
@@ -83,6 +80,6 @@ returns-clause-ticks g c =
     let acts : Acts (act_of h (old.phase h)) b a b2 = subst (λ x. Acts x b a b2) c.requires.own_call c.call-answer.ensures.acts in
     let harts : b2.harts ≡ b.harts = acts_harts (act_of h (old.phase h)) b b2 a acts.does in
     let leads : c.after_answer-next.result ≡ p =
-    c.after_answer-next.ensures ∙ (ap (λ n. after_answer n h c.phase_of-phase.result a) c.harts-harts.ensures ∙ ap (λ q. after_answer b.harts h q a) c.phase_of-phase.ensures) in
-    let moves : next ≡ gives h p b2 old = c.gives.ensures s.limit b b2 c.mask-mask.ensures ∙ ap (λ q. gives h q b2 old) leads in
-    (b2, (acts, ap Some (moves ∙ sym (give_tick old h a b2 c.requires.phase c.requires.place))))
+      answered b.harts c.harts-harts.result h (old.phase h) c.phase_of-phase.result c.after_answer-next.result a c.after_answer-next.ensures c.harts-harts.ensures c.phase_of-phase.ensures in
+    let moves : next ≡ gives h p b2 old = gives_to old next h p c.after_answer-next.result b2 (c.gives.ensures s.limit b b2 c.mask-mask.ensures) leads in
+    whole_gives old next h a b2 c.requires.phase c.requires.place acts moves
