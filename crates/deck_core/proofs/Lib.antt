@@ -1,0 +1,17 @@
+pub mod Masks
+pub mod Frame
+pub mod Opening
+pub mod Transactions
+pub mod Outside
+pub mod Runs
+pub mod Elects
+pub mod Gathers
+pub mod Enters
+pub mod Sessions
+pub mod Leaves
+pub mod Ticks
+pub mod Conditions
+pub mod Bits
+pub mod SeatSteps
+pub mod Flats
+pub mod Allowed

@@ -1,0 +1,34 @@
+use Rattle.std.proofs.Common.{ℕ, suc, refl}
+use Rattle.deck_core.specs.Told.{Told}
+use Rattle.deck_core.specs.Configuration.{Configuration}
+use Rattle.deck_core.specs.Seats.{configuration_of}
+use Rattle.deck_core.specs.declared.phase.Phase.TheVariants as phase
+use Rattle.deck_core.proofs.Flats.{quiet, sound_on, whole_on, seat_moved}
+use Rattle.deck_core.proofs.flat_deck.FlatDeck.open_gate.Goals as goal
+
+pub invariant_of-self : goal.invariant_of-self
+invariant_of-self g c =
+    let s = c.args.self.now in
+    let b : Told = g.B.Bus.told s.bus in
+    let h : ℕ = s.selected.0 in
+    let old : Configuration = configuration_of s.limit s.seats b in
+    let next : Configuration = configuration_of s.limit c.turns_gate.new.seats b in
+    record { selected_is_one = s.selected_is_one; few = s.few; sound = sound_on old next h s.sound s.selected_is_one (quiet old next h phase.OpenGate c.requires.phase refl (c.turns_gate.ensures s.limit b)) }
+
+pub returns-clause-seat : goal.returns-clause-seat
+returns-clause-seat g c =
+    let s = c.args.self.now in
+    let b : Told = g.B.Bus.told s.bus in
+    let h : ℕ = s.selected.0 in
+    let old : Configuration = configuration_of s.limit s.seats b in
+    let next : Configuration = configuration_of s.limit c.turns_gate.new.seats b in
+    seat_moved old next h old.master (suc old.gate) old.own phase.Drop s.idle (c.turns_gate.ensures s.limit b)
+
+pub returns-clause-ticks : goal.returns-clause-ticks
+returns-clause-ticks g c =
+    let s = c.args.self.now in
+    let b : Told = g.B.Bus.told s.bus in
+    let h : ℕ = s.selected.0 in
+    let old : Configuration = configuration_of s.limit s.seats b in
+    let next : Configuration = configuration_of s.limit c.turns_gate.new.seats b in
+    whole_on old next h (quiet old next h phase.OpenGate c.requires.phase refl (c.turns_gate.ensures s.limit b))

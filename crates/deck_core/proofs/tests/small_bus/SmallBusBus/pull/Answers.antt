@@ -1,0 +1,14 @@
+use Rattle.std.proofs.Common.{◌≡◌, ℕ, ◌<◌, ◌≤◌, ◌^◌, ◌+◌, ◌-◌, ◌*◌, ◌||◌, suc, Bool, true, false, not, is_none, nat_lt, sym, ◌∙◌, ap, subst, arith}
+use Rattle.std.proofs.lemmas.Bool.{ltb-true, and_parts}
+use Rattle.deck_core.specs.declared.act.Act.TheVariants as act
+use Rattle.deck_core.proofs.Allowed.{allowed_names, allowed_legal}
+use Rattle.deck_core.proofs.Masks.{with-lt, without-lt, all_but-lt}
+use Rattle.deck_core.proofs.tests.small_bus.SmallBusBus.pull.Goals as goal
+
+pub mask_without-self-requires : goal.mask_without-self-requires
+mask_without-self-requires c = omega (arith, ltb-true c.args.i 16 (allowed_names (act.Pull c.args.i) _ c.requires))
+
+pub invariant_of-self-clause-planted_places : goal.invariant_of-self-clause-planted_places
+invariant_of-self-clause-planted_places c =
+    let place : c.args.i < 16 = ltb-true c.args.i 16 (allowed_names (act.Pull c.args.i) _ c.requires) in
+    subst (λ x. x < 2 ^ 16) (sym c.mask_without-self.ensures) (without-lt 16 c.args.self.now.notes.planted c.args.i c.args.self.now.planted_places place)

@@ -1,0 +1,300 @@
+-- A hart's next step.
+use Rattle.std.specs.Prelude.{◌≡◌, ℕ, suc, ◌+◌, ◌-◌, ◌%◌, ◌==◌, ◌&&◌, ◌||◌, ◌<◌, Bool, true, false, not, nat_lt, List, [], ◌∷◌, Option, Some, None, is_some, if◌then◌else◌}
+use Rattle.deck_core.specs.Words.{has, mask_with, mask_without, all_but, least, least_outside, turn_word, mask_of, holder_of}
+use Rattle.deck_core.specs.Phases.{is_in_session, holds}
+use Rattle.deck_core.specs.Told.{Told}
+use Rattle.deck_core.specs.Configuration.{Configuration, put}
+use Rattle.deck_core.specs.Contract.{Acts}
+use Rattle.deck_core.specs.declared.phase.Phase.{Phase}
+use Rattle.deck_core.specs.declared.phase.Phase.TheVariants as phase
+use Rattle.deck_core.specs.declared.phase.Place.{Place}
+use Rattle.deck_core.specs.declared.phase.Place.TheVariants as place
+use Rattle.deck_core.specs.declared.phase.Then.{Then}
+use Rattle.deck_core.specs.declared.phase.Then.TheVariants as follow
+use Rattle.deck_core.specs.declared.phase.Kept.{Kept}
+use Rattle.deck_core.specs.declared.phase.Looks.{Looks}
+use Rattle.deck_core.specs.declared.act.Act.{Act}
+use Rattle.deck_core.specs.declared.act.Act.TheVariants as act
+use Rattle.deck_core.specs.declared.act.Answer.{Answer}
+use Rattle.deck_core.specs.declared.act.Answer.TheVariants as answer
+use Rattle.deck_core.specs.declared.act.Turned.{Turned}
+use Rattle.deck_core.specs.declared.act.Turned.TheVariants as turned
+use Rattle.deck_core.specs.declared.act.Entered.{Entered}
+use Rattle.deck_core.specs.declared.act.Entered.TheVariants as entered
+use Rattle.deck_core.specs.declared.act.Lined.{Lined}
+use Rattle.deck_core.specs.declared.act.Lined.TheVariants as lined
+use Rattle.deck_core.specs.declared.act.Passed.{Passed}
+use Rattle.deck_core.specs.declared.act.Passed.TheVariants as passed
+
+-- ---- where a transaction leads
+
+-- after the hart's step outside a session
+abbrev pub after_step : Turned → Phase
+after_step turned.Off = phase.Finished
+after_step turned.Called = phase.Called
+after_step turned.Trapped = phase.Wish
+after_step _ = phase.Run
+
+-- after the check of the master's trap: with none it goes back without a session
+abbrev pub after_check : Bool → Phase
+after_check trapped = if trapped then phase.Shut else phase.Drop
+
+-- this hart, or the one after it where it is the master
+abbrev pub skipping : ℕ → ℕ → ℕ
+skipping m k = if k == m then k + 1 else k
+
+-- the gathering begins
+abbrev pub first_look : ℕ → Phase
+first_look m = phase.Gather (record { rounds = 0; next = skipping m 0; gathered = 0 })
+
+-- the harts that are neither m nor gathered are late
+abbrev pub entering : ℕ → ℕ → ℕ → Phase
+entering harts m gathered = phase.Enter (record { late = all_but harts (mask_with gathered m) }) false
+
+-- after the gate is shut: the first other hart is called, if there is one
+abbrev pub after_shut : ℕ → ℕ → Phase
+after_shut harts m = if nat_lt (skipping m 0) harts then phase.Send (skipping m 0) else entering harts m 0
+
+-- after a call: the next other hart is called, and after the last the gathering begins
+abbrev pub after_send : ℕ → ℕ → ℕ → Phase
+after_send harts m to = if nat_lt (skipping m (to + 1)) harts then phase.Send (skipping m (to + 1)) else first_look m
+
+-- the gathered harts after a look at the next one
+abbrev pub gathered_after : Looks → Bool → ℕ
+gathered_after looks counts = if counts then mask_with looks.gathered looks.next else looks.gathered
+
+-- a round of looks is over: the gathering ends where every other hart is gathered, or the rounds are used up
+abbrev pub round_over : ℕ → ℕ → ℕ → Looks → ℕ → Option ℕ → Phase
+round_over limit harts m looks gathered None = entering harts m gathered
+round_over limit harts m looks gathered (Some k) =
+    if nat_lt (looks.rounds + 1) limit then phase.Gather (record { rounds = looks.rounds + 1; next = k; gathered = gathered })
+    else entering harts m gathered
+
+-- the next look is at the least hart above that is neither m nor gathered; where there is none, the round is over
+abbrev pub looks_on : ℕ → ℕ → ℕ → Looks → ℕ → Option ℕ → Phase
+looks_on limit harts m looks gathered (Some k) = phase.Gather (record looks { next = k; gathered = gathered })
+looks_on limit harts m looks gathered None =
+    round_over limit harts m looks gathered (least_outside harts 0 (mask_with gathered m))
+
+-- after a look
+unfoldable pub after_look : ℕ → ℕ → ℕ → Looks → Bool → Phase
+after_look limit harts m looks counts =
+    let gathered = gathered_after looks counts in
+    looks_on limit harts m looks gathered (least_outside (harts - (looks.next + 1)) (looks.next + 1) (mask_with gathered m))
+
+-- the planted words are taken out, then lines are run
+abbrev pub pulling : Kept → ℕ → Phase
+pulling kept left = if left == 0 then phase.Lines kept else phase.Pull kept left
+
+-- the places are planted again, then the session closes
+abbrev pub planting : Kept → ℕ → Phase
+planting kept left = if left == 0 then phase.Close kept else phase.Plant kept left
+
+abbrev pub after_enter : Kept → Entered → Phase
+after_enter kept (entered.Inside planted) = pulling kept planted
+after_enter kept entered.Off = phase.Close kept
+
+-- the single-step pass begins, by planting the step word where there is one
+abbrev pub passing : Kept → Option ℕ → Phase
+passing kept (Some at) = phase.PlantStep kept at
+passing kept None = phase.PassStep kept false
+
+abbrev pub after_line : Kept → Lined → Phase
+after_line kept lined.Stay = phase.Lines kept
+after_line kept (lined.Pass at again) = passing kept at
+after_line kept (lined.Free enabled) = planting kept enabled
+after_line kept lined.Ended = phase.Close kept
+after_line kept lined.Lost = phase.Close kept
+
+-- what follows the instruction of a single-step pass
+abbrev pub then_of : Passed → Then
+then_of (passed.Free enabled) = follow.Plant enabled
+then_of _ = follow.Enter
+
+abbrev pub after_pull_step : Kept → Then → Phase
+after_pull_step kept follow.Enter = phase.Enter kept true
+after_pull_step kept (follow.Plant left) = planting kept left
+
+abbrev pub after_pass : Kept → Bool → Passed → Phase
+after_pass kept planted r = if planted then phase.PullStep kept (then_of r) else after_pull_step kept (then_of r)
+
+-- ---- the call that a phase makes, and the phase that follows its answer
+
+-- hart h's one call in this phase; in a phase that makes none it is not used
+abbrev pub act_of : ℕ → Phase → Act
+act_of h phase.Own = act.Check (record { 0 = h })
+act_of h (phase.Send to) = act.Send (record { 0 = to })
+act_of h (phase.Enter kept reopens) = act.Enter (record { 0 = h }) kept.late
+act_of h (phase.Pull kept left) = act.Pull (least left)
+act_of h (phase.Lines kept) = act.Line (record { 0 = h })
+act_of h (phase.PlantStep kept at) = act.PlantStep at
+act_of h (phase.PassStep kept planted) = act.PassStep (record { 0 = h })
+act_of h (phase.PullStep kept follows) = act.PullStep
+act_of h (phase.Plant kept left) = act.Plant (least left)
+act_of h (phase.Close kept) = act.Close (record { 0 = h })
+act_of h _ = act.HartStep (record { 0 = h })
+
+abbrev pub step_answer : Answer → Turned
+step_answer (answer.HartStep r) = r
+step_answer _ = turned.Idle
+
+abbrev pub check_answer : Answer → Bool
+check_answer (answer.Check r) = is_some r
+check_answer _ = false
+
+abbrev pub enter_answer : Answer → Entered
+enter_answer (answer.Enter r) = r
+enter_answer _ = entered.Off
+
+abbrev pub line_answer : Answer → Lined
+line_answer (answer.Line r) = r
+line_answer _ = lined.Ended
+
+abbrev pub pass_answer : Answer → Passed
+pass_answer (answer.PassStep r) = r
+pass_answer _ = passed.Faulted
+
+-- whether this phase is a transaction
+abbrev pub is_transaction : Phase → Bool
+is_transaction phase.Called = false
+is_transaction (phase.Mark gate) = false
+is_transaction (phase.Parked gate) = false
+is_transaction (phase.Unmark gate) = false
+is_transaction phase.Wish = false
+is_transaction phase.Want = false
+is_transaction phase.Shut = false
+is_transaction (phase.Gather looks) = false
+is_transaction phase.OpenGate = false
+is_transaction phase.Drop = false
+is_transaction phase.Free = false
+is_transaction phase.Finished = false
+is_transaction _ = true
+
+-- the phase of hart h, of so many, after the answer
+abbrev pub after_answer : ℕ → ℕ → Phase → Answer → Phase
+after_answer harts h phase.Run a = after_step (step_answer a)
+after_answer harts h phase.Own a = after_check (check_answer a)
+after_answer harts h (phase.Send to) a = after_send harts h to
+after_answer harts h (phase.Enter kept reopens) a = after_enter kept (enter_answer a)
+after_answer harts h (phase.Pull kept left) a = pulling kept (mask_without left (least left))
+after_answer harts h (phase.Lines kept) a = after_line kept (line_answer a)
+after_answer harts h (phase.PlantStep kept at) a = phase.PassStep kept true
+after_answer harts h (phase.PassStep kept planted) a = after_pass kept planted (pass_answer a)
+after_answer harts h (phase.PullStep kept follows) a = after_pull_step kept follows
+after_answer harts h (phase.Plant kept left) a = planting kept (mask_without left (least left))
+after_answer harts h (phase.Close kept) a = phase.OpenGate
+after_answer harts h p a = p
+
+-- ---- ticks
+
+-- hart h goes to another phase
+abbrev pub enters : ℕ → Phase → Configuration → Configuration
+enters h p c = record c { phase = put c.phase h p }
+
+-- hart h writes its own word, and goes to another phase
+abbrev pub writes : ℕ → ℕ → Phase → Configuration → Configuration
+writes h word p c = record c { own = put c.own h word; phase = put c.phase h p }
+
+-- hart h goes to another place in its transaction
+abbrev pub goes : ℕ → Place → Configuration → Configuration
+goes h at c = record c { place = put c.place h at }
+
+-- whether hart h finds the turn busy: it has a holder, or h is stopped and is no master in a session
+abbrev pub is_busy : ℕ → Phase → ℕ → Bool
+is_busy h p turn = not (holder_of turn == 0) || (has (mask_of turn) h && not (is_in_session p))
+
+-- the load of the turn word
+abbrev pub peeks : ℕ → Phase → Configuration → Configuration
+peeks h p c = if is_busy h p c.turn then c else goes h (place.Take c.turn) c
+
+-- the compare and exchange of the turn word
+abbrev pub takes : ℕ → ℕ → Configuration → Configuration
+takes h seen c =
+    if c.turn == seen then record c { turn = turn_word (mask_of c.turn) (suc h); place = put c.place h place.Give }
+    else goes h place.Peek c
+
+-- the call was made, the bus now tells this, and the turn is given back
+abbrev pub gives : ℕ → Phase → Told → Configuration → Configuration
+gives h p after c = record c { turn = after.mask; phase = put c.phase h p; place = put c.place h place.Peek; told = after }
+
+-- a tick of a transaction, by the hart's place in it
+abbrev pub transacts : ℕ → Phase → Place → Answer → Told → Configuration → Configuration
+transacts h p place.Peek a after c = peeks h p c
+transacts h p (place.Take seen) a after c = takes h seen c
+transacts h p place.Give a after c = gives h (after_answer c.told.harts h p a) after c
+
+-- hart h loads the gate's number after a call
+abbrev pub answers_call : ℕ → Configuration → Configuration
+answers_call h c = enters h (if c.gate % 2 == 0 then phase.Run else phase.Mark c.gate) c
+
+-- hart h, parked at this number, loads the gate's number
+abbrev pub waits_at : ℕ → ℕ → Configuration → Configuration
+waits_at h at c = if c.gate == at then c else enters h (phase.Unmark at) c
+
+-- hart h tries to become the master
+abbrev pub tries_master : ℕ → Configuration → Configuration
+tries_master h c = if c.master == 0 then record c { master = suc h; phase = put c.phase h phase.Own } else c
+
+-- the gate's number grows by 1, and hart h goes to another phase
+abbrev pub turns_gate : ℕ → Phase → Configuration → Configuration
+turns_gate h p c = record c { gate = suc c.gate; phase = put c.phase h p }
+
+-- the master word is freed
+abbrev pub frees : ℕ → Configuration → Configuration
+frees h c = record c { master = 0; phase = put c.phase h phase.Run }
+
+-- whether the mark of hart k counts: it wants the prompt, or marked itself at the gate's present number
+abbrev pub mark_counts : Configuration → ℕ → Bool
+mark_counts c k = (c.own k == 1) || (c.own k == c.gate)
+
+-- hart h's tick, in this phase. a and after are the answer of the bus and what it tells after the call; they matter in
+-- a transaction alone, before the call
+abbrev pub tick_in : Phase → ℕ → Answer → Told → Configuration → Configuration
+tick_in phase.Called h a after c = answers_call h c
+tick_in (phase.Mark gate) h a after c = writes h gate (phase.Parked gate) c
+tick_in (phase.Parked gate) h a after c = waits_at h gate c
+tick_in (phase.Unmark gate) h a after c = writes h 0 phase.Run c
+tick_in phase.Wish h a after c = writes h 1 phase.Want c
+tick_in phase.Want h a after c = tries_master h c
+tick_in phase.Shut h a after c = turns_gate h (after_shut c.told.harts h) c
+tick_in (phase.Gather looks) h a after c =
+    enters h (after_look c.limit c.told.harts h looks (mark_counts c looks.next)) c
+tick_in phase.OpenGate h a after c = turns_gate h phase.Drop c
+tick_in phase.Drop h a after c = writes h 0 phase.Free c
+tick_in phase.Free h a after c = frees h c
+tick_in phase.Finished h a after c = c
+tick_in p h a after c = transacts h p (c.place h) a after c
+
+unfoldable pub tick : ℕ → Answer → Told → Configuration → Configuration
+tick h a after c = tick_in (c.phase h) h a after c
+
+-- whether hart h's tick makes a call of the bus
+abbrev pub makes_call : ℕ → Configuration → Bool
+makes_call h c = is_transaction (c.phase h) && holds (c.place h)
+
+-- a tick of hart h, with an honest bus
+pub record Ticks (h : ℕ) (c : Configuration) (next : Configuration) : Type 0 where
+  pub answer : Answer
+  pub after : Told
+  pub honest : makes_call h c ≡ true → Acts (act_of h (c.phase h)) c.told answer after
+  pub ticked : next ≡ tick h answer after c
+
+-- ticks of the harts of a list in order, each one of the bus's harts
+abbrev pub TicksAll : List ℕ → Configuration → Configuration → Type 0
+TicksAll [] c last = last ≡ c
+TicksAll (h ∷ plan) c last = (h < c.told.harts) × ((next : Configuration) × (Ticks h c next × TicksAll plan next last))
+
+-- ---- what the functions of a phase ask for
+
+-- what a phase keeps is in range for the phase after it: a hart that is called is one of the harts, and a place is left
+abbrev pub CanGoOn : ℕ → Phase → Type 0
+CanGoOn harts (phase.Send to) = to < harts
+CanGoOn harts (phase.Pull kept left) = 0 < left
+CanGoOn harts (phase.Plant kept left) = 0 < left
+CanGoOn harts _ = Unit {0}
+
+-- after a load of the gate's number by a hart that was called, or that is parked at another number
+abbrev pub after_gate : Phase → ℕ → Phase
+after_gate phase.Called gate = if gate % 2 == 0 then phase.Run else phase.Mark gate
+after_gate (phase.Parked at) gate = if gate == at then phase.Parked at else phase.Unmark at
+after_gate p gate = p

@@ -1,0 +1,68 @@
+//! The protocol by which harts elect a master, gather the others and enter the debugger, as a pure machine: it knows no
+//! memory, no command and no thread.
+//!
+//! - A *bus* (`Bus`) is the machine that the harts share. One hart at a time may call it: the holder of the *turn*.
+//! - A *transaction* is one call of the bus by the steps load, compare and exchange, call. A hart's `Place` is its place
+//!   in one.
+//! - A hart's *phase* (`Phase`) is what it does next. The phases from `Own` to `Free` are those of the *master*.
+//! - The *gate* is a number, odd while it is shut. A hart that was called marks itself with the odd number that it saw,
+//!   and waits until the gate has another one. The harts that the master didn't find marked are *late*.
+//! - A *configuration* (specs/Configuration.antt) is the shared words, each hart's phase and place, and what the bus
+//!   tells; a *tick* (specs/Tick.antt) is one hart's next step.
+//! - The *invariant* is `Sound` of specs/Invariant.antt.
+//!
+//! What is proved: the opening configuration meets the invariant, and each tick of each hart, in each phase and with every
+//! bus that keeps its contract, keeps it (`laws`). So does every list of ticks. From the invariant follow the condition
+//! of each call of the bus, that at most one hart is in a master's phase, that no hart runs which the session has stopped,
+//! that sessions never overlap, and that the gate's number stays small (`facts`). The calls of the pure deck (`Flat`) are
+//! exactly the ticks of the selected hart. Nothing is claimed of progress: that a gathering finds every hart, or that a
+//! hart ever gets the turn.
+//!
+//! It stands on `mach_base`. The program of a hart, the board of shared words and the machine's core stand on it.
+#![tactic(auto)]
+
+mod act;
+mod bit_masks;
+mod bus;
+mod calls;
+mod deck;
+mod facts;
+mod flat;
+mod flat_deck;
+mod laws;
+mod next_phase;
+mod notes;
+mod pause;
+mod phase;
+mod seat_steps;
+mod seats;
+mod words;
+
+pub use act::{Act, Answer, Entered, Lined, Passed, Turned};
+pub use bit_masks::{
+    all_but, least, least_outside, mask_has, mask_with, mask_without, without_least,
+};
+pub use bus::Bus;
+pub use calls::call;
+pub use deck::Deck;
+pub use facts::{
+    call_is_allowed, gate_is_bounded, gone_trap_drops, one_master, opening_is_sound, runs_unmasked,
+    sessions_never_overlap,
+};
+pub use flat::Flat;
+pub use laws::{
+    called_keeps, close_keeps, drop_keeps, enter_keeps, every_plan_keeps, every_tick_keeps,
+    finished_keeps, free_keeps, gather_keeps, lines_keeps, mark_keeps, open_gate_keeps, own_keeps,
+    parked_keeps, pass_step_keeps, plant_keeps, plant_step_keeps, pull_keeps, pull_step_keeps,
+    run_keeps, send_keeps, shut_keeps, unmark_keeps, want_keeps, wish_keeps,
+};
+pub use next_phase::{
+    act_of, after_answer, after_clear, after_gate, after_look, after_shut, is_transaction,
+};
+pub use notes::{Notes, Sitting, Stage};
+pub use pause::{Counted, Pause};
+pub use phase::{Kept, Looks, Phase, Place, Then};
+pub use words::{Words, holder_of, is_busy, is_in_session, mask_of, turn_word};
+
+#[cfg(test)]
+mod tests;
