@@ -194,6 +194,60 @@ fn runs_print_their_transcripts(rt: HostRuntime) -> Result<(), Fail> {
     Ok(())
 }
 
+/// A load-reserved and a store-conditional, with an `ebreak` before and behind the latter.
+const RESERVED: &str =
+    "kimg 1\ntext 0x1000 24\nw 0x000025b7 0x1005b52f 0x00100073 0x18a5b62f 0x00100073 0x00000073\ndata 0x2000 8\n";
+
+const DATA: &str = "kimg 1\ntext 0x1000 8\nw 0x00000073\ndata 0x2000 16\n";
+
+#[test]
+fn lines_print_and_change(rt: HostRuntime) -> Result<(), Fail> {
+    for (image, script, ending, parts) in [
+        (
+            RESERVED,
+            "go\nmm 2000 7\ngo\nrd | grep a2\ngo\n",
+            Ending::AllHalted,
+            [
+                START,
+                "[0]kdb> go\nEntering kdb on processor 0 due to Compiled breakpoint @ 0x0000000000001008\n[0]kdb> mm 2000 7\n",
+                "0x0000000000002000 = 0x0000000000000007\n[0]kdb> go\nEntering kdb on processor 0 due to Compiled breakpoint @ 0x0000000000001010\n",
+                "[0]kdb> rd | grep a2\n  a2: 0000000000000001    a3: 0000000000000000    a4: 0000000000000000    a5: 0000000000000000\n[0]kdb> go\nkdbsim: all halted after 6 steps\n",
+            ],
+        ),
+        (
+            DATA,
+            "env\ngo 1002\n",
+            Ending::ScriptEnd,
+            [
+                START,
+                "[0]kdb> env\nPROMPT=[%d]kdb> \nRADIX=16\nMDCOUNT=8\nBYTESPERWORD=8\nLINES=24\n[0]kdb> go 1002\n",
+                "Entering kdb on processor 0 due to Fault misaligned 0x0000000000001002 @ 0x0000000000001002\n",
+                "[0]kdb> \nkdbsim: script end after 0 steps\n",
+            ],
+        ),
+        (
+            DATA,
+            "md 3000\nmd zork\nmd 12g\nmd4 2000 0\nxyz\nmd\nset PROMPT=%d%d>\nrm q 1\nmm1 2000 100\nmd \"2000\nmd 2000 | sort\nxyz | grep d\nxyz | grep ^x",
+            Ending::ScriptEnd,
+            [
+                START,
+                "[0]kdb> md 3000\ndiag: 12: bad address 0x0000000000003000\n[0]kdb> md zork\ndiag: 1: unknown name zork\n[0]kdb> md 12g\ndiag: 11: bad number 12g\n[0]kdb> md4 2000 0\ndiag: 17: bad count\n",
+                "[0]kdb> xyz\ndiag: 5: unknown command xyz\n[0]kdb> md\ndiag: 2: wrong number of arguments\n[0]kdb> set PROMPT=%d%d>\n0%d>rm q 1\ndiag: 10: bad register q\n0%d>mm1 2000 100\ndiag: 11: bad number 100\n",
+                "0%d>md \"2000\ndiag: 21: unclosed quote\n0%d>md 2000 | sort\ndiag: 23: bad pipe\n0%d>xyz | grep d\ndiag: 5: unknown command xyz\n0%d>xyz | grep ^x\n0%d>\nkdbsim: script end after 0 steps\n",
+            ],
+        ),
+    ] {
+        let (status, printed) = answer(rt.alloc(), image, script.as_bytes())?;
+        assert_eq!(rt; status, Status::Done(ending));
+        let mut want = Vec::new(rt.alloc());
+        for part in parts {
+            want.extend_from_slice(part.as_bytes())?;
+        }
+        assert_eq!(rt; printed.as_bytes(), want.as_slice());
+    }
+    Ok(())
+}
+
 /// A load-reserved and a store-conditional with nothing between but sessions.
 #[test]
 fn a_session_keeps_reservations(rt: HostRuntime) -> Result<(), Fail> {
