@@ -26,5 +26,5 @@ returns-clause-line c = λ line rest e.
       text ∙ ap (λ (x : Said). c.args.out.now.items ++ (prompt_text s ++ (line ++ (newline ++ x.output)))) (sym said),
       ap (λ (x : Said). x.outcome) (sym said),
       ap (λ (xs : List Context). record (machine_of core) { harts = xs; memory = a.state.memory; places = a.state.places; variables = a.state.variables; macros = a.state.macros; defining = a.state.defining; current = a.state.current; unread = drop (core.read + 1) core.lines.items; lines_read = core.read + 1 }) back
-      ∙ ap (λ unread. record (with_line_state s a.state) { unread = unread }) found.1 ∙ ap (λ (x : Said). x.machine) (sym said),
+          ∙ ap (λ unread. record (with_line_state s a.state) { unread = unread }) found.1 ∙ ap (λ (x : Said). x.machine) (sym said),
     )
