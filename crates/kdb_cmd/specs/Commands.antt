@@ -4,7 +4,7 @@ use Rattle.kdb_cmd.specs.declared.diagnostics.Diagnostic.{Diagnostic}
 use Rattle.kdb_cmd.specs.declared.diagnostics.Diagnostic.TheVariants.{UnknownCommand}
 use Rattle.kdb_cmd.specs.declared.outcomes.Outcome.TheVariants.{Stay}
 use Rattle.kdb_cmd.specs.declared.spellings.Command.{Command}
-use Rattle.kdb_cmd.specs.declared.spellings.Command.TheVariants.{Show, Mm, Rm, Set, Go}
+use Rattle.kdb_cmd.specs.declared.spellings.Command.TheVariants.{Show, Mm, Rm, Set, Break, Ss, Go}
 use Rattle.kdb_cmd.specs.declared.spellings.Showing.{Showing}
 use Rattle.kdb_cmd.specs.declared.spellings.Showing.TheVariants.{Md, MdCount, Mdr, Mds, Rd, Env}
 use Rattle.kdb_cmd.specs.LineState.{LineState, Answer}
@@ -15,7 +15,8 @@ use Rattle.kdb_cmd.specs.ShownMemory.{md_text, md_count_text, mdr_text, mds_text
 use Rattle.kdb_cmd.specs.Registers.{rd_text, rm_answer}
 use Rattle.kdb_cmd.specs.Variables.{env_text, set_answer}
 use Rattle.kdb_cmd.specs.ChangedMemory.{mm_answer}
-use Rattle.kdb_cmd.specs.Leaving.{go_answer}
+use Rattle.kdb_cmd.specs.Leaving.{go_answer, ss_answer}
+use Rattle.kdb_cmd.specs.Breakpoints.{breakpoints_marked}
 
 -- what a command shows
 unfoldable pub shown_text : LineState → Showing → List (List ℕ) → Result (List ℕ) Diagnostic
@@ -36,6 +37,8 @@ command_answer entry (Show what) s words = shown_text s what words >>= λ text. 
 command_answer entry (Mm width) s words = mm_answer s width words
 command_answer entry Rm s words = rm_answer s words
 command_answer entry Set s words = set_answer s words
+command_answer entry (Break breaking) s words = breakpoints_marked s breaking words >>= λ marked. Ok (showing (record s { places = marked.breaks }) marked.text)
+command_answer entry Ss s words = ss_answer entry s words
 command_answer entry Go s words = go_answer entry s words
 
 abbrev pub answer_if_known : ℕ → Option Command → LineState → List (List ℕ) → Result Answer Diagnostic
@@ -51,7 +54,3 @@ words_meaning entry words s =
 abbrev pub answer_or_line : List (List ℕ) → LineState → Result Answer Diagnostic → Answer
 answer_or_line words s (Ok answer) = answer
 answer_or_line words s (Err diagnostic) = showing s (diagnostic_text words diagnostic)
-
--- what a line of these words prints and does
-unfoldable pub words_answer : ℕ → List (List ℕ) → LineState → Answer
-words_answer entry words s = answer_or_line words s (words_meaning entry words s)

@@ -1,8 +1,8 @@
 -- The commands that leave the session.
-use Rattle.std.specs.Prelude.{ℕ, ◌==◌, List, [], length, Option, Some, None, Result, Ok, Err, if◌then◌else◌}
+use Rattle.std.specs.Prelude.{ℕ, ◌==◌, not, List, [], length, Option, Some, None, Result, Ok, Err, if◌then◌else◌}
 use Rattle.kdb_cmd.specs.declared.diagnostics.Diagnostic.{Diagnostic}
-use Rattle.kdb_cmd.specs.declared.diagnostics.Diagnostic.TheVariants.{WrongArguments, EnteredOn}
-use Rattle.kdb_cmd.specs.declared.outcomes.Outcome.TheVariants.{Go}
+use Rattle.kdb_cmd.specs.declared.diagnostics.Diagnostic.TheVariants.{WrongArguments, EnteredOn, IsHalted}
+use Rattle.kdb_cmd.specs.declared.outcomes.Outcome.TheVariants.{Go, Step}
 use Rattle.kdb_cmd.specs.LineState.{LineState, Answer, current_context, with_current}
 use Rattle.kdb_cmd.specs.Refused.{◌>>=◌}
 use Rattle.kdb_cmd.specs.Arguments.{argument}
@@ -27,3 +27,19 @@ left entry s pc =
 -- `go [E]`
 unfoldable pub go_answer : ℕ → LineState → List (List ℕ) → Result Answer Diagnostic
 go_answer entry s words = pc_wanted s words >>= left entry s
+
+-- why `ss` is refused: the processor isn't the one that entered, or is halted
+unfoldable pub ss_refusal : ℕ → LineState → List (List ℕ) → Option Diagnostic
+ss_refusal entry s words =
+    if not (length words == 1) then Some WrongArguments
+    else if not (s.current == entry) then Some (EnteredOn entry)
+    else if (current_context s).halted then Some (IsHalted s.current)
+    else None
+
+abbrev pub step_unless : Option Diagnostic → LineState → Result Answer Diagnostic
+step_unless None s = Ok (record { output = []; state = s; outcome = Step })
+step_unless (Some why) s = Err why
+
+-- `ss`: the session is left for one instruction
+abbrev pub ss_answer : ℕ → LineState → List (List ℕ) → Result Answer Diagnostic
+ss_answer entry s words = step_unless (ss_refusal entry s words) s

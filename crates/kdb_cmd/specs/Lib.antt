@@ -11,5 +11,10 @@ pub mod ChangedMemory
 pub mod Registers
 pub mod Variables
 pub mod Leaving
+pub mod Breakpoints
 pub mod Commands
+pub mod Frames
+pub mod Naming
+pub mod Macros
+pub mod MacroLines
 pub mod Line

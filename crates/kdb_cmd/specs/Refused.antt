@@ -1,5 +1,5 @@
 -- Commands that can be refused.
-use Rattle.std.specs.Prelude.{◌≡◌, ℕ, List, Result, Ok, Err}
+use Rattle.std.specs.Prelude.{◌≡◌, Result, Ok, Err}
 use Rattle.kdb_cmd.specs.declared.diagnostics.Diagnostic.{Diagnostic}
 use Rattle.kdb_cmd.specs.declared.outcomes.Said.{Said}
 use Rattle.kdb_cmd.specs.LineState.{LineState, Answer}
@@ -17,9 +17,9 @@ abbrev pub Refuses : {A : Type 0} → Refusal → Result A Diagnostic → Type 0
 Refuses (Diagnosed d) meaning = meaning ≡ Err d
 Refuses OutOfMemory meaning = Unit {0}
 
--- the text, or the diagnostic, is the one that is meant
-abbrev pub Answers : Result (List ℕ) Refusal → Result (List ℕ) Diagnostic → Type 0
-Answers (Ok text) meaning = meaning ≡ Ok text
+-- what is given, or the diagnostic, is what is meant
+abbrev pub Answers : {A : Type 0} → Result A Refusal → Result A Diagnostic → Type 0
+Answers (Ok given) meaning = meaning ≡ Ok given
 Answers (Err refusal) meaning = Refuses refusal meaning
 
 -- what a command says and the state that it leaves are the ones that are meant; a refusal leaves the state

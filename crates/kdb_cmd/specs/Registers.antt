@@ -1,7 +1,6 @@
 -- The commands about registers.
 use Rattle.std.specs.Prelude.{ℕ, ◌==◌, List, length, Option, Some, None, Result, Ok, Err, if◌then◌else◌}
 use Rattle.hart_ctx.specs.declared.register_name.RegName.{RegName}
-use Rattle.hart_ctx.specs.Context.{context_of}
 use Rattle.hart_ctx.specs.RegisterName.{register_named}
 use Rattle.kdb_reg.specs.Registers.{is_zero, with_named, registers_text, set_text}
 use Rattle.kdb_cmd.specs.declared.diagnostics.Diagnostic.{Diagnostic}

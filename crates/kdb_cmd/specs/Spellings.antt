@@ -6,7 +6,10 @@ use Rattle.std.specs.Str.{bytes_eq}
 use Rattle.mach_base.specs.Number.{number_of}
 use Rattle.mach_base.specs.declared.number.NumFault.{NumFault}
 use Rattle.kdb_cmd.specs.declared.spellings.Command.{Command}
-use Rattle.kdb_cmd.specs.declared.spellings.Command.TheVariants.{Show, Mm, Rm, Set, Go}
+use Rattle.kdb_cmd.specs.declared.spellings.Command.TheVariants.{Show, Mm, Rm, Set, Break, Ss, Go}
+use Rattle.kdb_cmd.specs.declared.spellings.Breaking.{Breaking}
+use Rattle.kdb_cmd.specs.declared.spellings.Breaking.TheVariants.{Bp, Bl, Mark}
+use Rattle.kdb_cmd.specs.declared.spellings.Marking.TheVariants.{Clear, Disable, Enable}
 use Rattle.kdb_cmd.specs.declared.spellings.Showing.{Showing}
 use Rattle.kdb_cmd.specs.declared.spellings.Showing.TheVariants.{Md, MdCount, Mdr, Mds, Rd, Env}
 use Rattle.kdb_mem.specs.Range.{IsWidth}
@@ -27,6 +30,8 @@ IsCommand (Mm None) = Unit {0}
 IsCommand (Mm (Some width)) = IsWidth width
 IsCommand Rm = Unit {0}
 IsCommand Set = Unit {0}
+IsCommand (Break breaking) = Unit {0}
+IsCommand Ss = Unit {0}
 IsCommand Go = Unit {0}
 
 -- the bytes of a word, by their digit
@@ -87,14 +92,33 @@ named word =
     else if bytes_eq word (codes "rm") then Some Rm
     else if bytes_eq word (codes "env") then Some (Show Env)
     else if bytes_eq word (codes "set") then Some Set
+    else if bytes_eq word (codes "ss") then Some Ss
     else if bytes_eq word (codes "go") then Some Go
     else None
 
+-- the commands about breakpoints
+unfoldable pub breaking_of : List ℕ → Option Breaking
+breaking_of word =
+    if bytes_eq word (codes "bp") then Some Bp
+    else if bytes_eq word (codes "bl") then Some Bl
+    else if bytes_eq word (codes "bc") then Some (Mark Clear)
+    else if bytes_eq word (codes "bd") then Some (Mark Disable)
+    else if bytes_eq word (codes "be") then Some (Mark Enable)
+    else None
+
+abbrev pub break_or : Option Breaking → Option Command → Option Command
+break_or None other = other
+break_or (Some breaking) other = Some (Break breaking)
+
+-- the commands that are spelt whole
+abbrev pub whole : List ℕ → Option Command
+whole word = break_or (breaking_of word) (named word)
+
 -- The command that a word spells.
 unfoldable pub command_of : List ℕ → Option Command
-command_of [] = named []
-command_of (a ∷ []) = named (a ∷ [])
+command_of [] = whole []
+command_of (a ∷ []) = whole (a ∷ [])
 command_of (a ∷ b ∷ rest) =
     if (a == 109) && (b == 100) then md_of rest
     else if (a == 109) && (b == 109) then mm_of rest
-    else named (a ∷ b ∷ rest)
+    else whole (a ∷ b ∷ rest)

@@ -1,5 +1,5 @@
 -- The commands about variables.
-use Rattle.std.specs.Prelude.{ℕ, zero, suc, ◌+◌, ◌==◌, Bool, List, [], ◌∷◌, ◌++◌, codes, length, take, drop, position, slice_index_or, Option, Some, None, Result, Ok, Err, if◌then◌else◌}
+use Rattle.std.specs.Prelude.{ℕ, zero, suc, ◌+◌, ◌==◌, List, [], ◌++◌, codes, length, take, drop, position, slice_index_or, Option, Some, None, Result, Ok, Err, if◌then◌else◌}
 use Rattle.mach_base.specs.Texts.{newline}
 use Rattle.kdb_env.specs.declared.env_fault.EnvFault.{EnvFault}
 use Rattle.kdb_env.specs.declared.env_fault.EnvFault.TheVariants as fault

@@ -1,12 +1,13 @@
-ghost use Rattle.std.specs.Prelude.{◌≡◌, ◌<◌, length, IfOk};
+ghost use Rattle.std.specs.Prelude.{◌≡◌, ◌<◌, length};
 ghost use Rattle.kdb_cmd.specs.State.{state_of};
 ghost use Rattle.kdb_cmd.specs.Refused.{Answers, Changes};
 ghost use Rattle.kdb_cmd.specs.Spellings.{IsShowing, IsCommand};
-ghost use Rattle.kdb_cmd.specs.Commands.{shown_text, command_answer, words_meaning, words_answer};
+ghost use Rattle.kdb_cmd.specs.Commands.{shown_text, command_answer, words_meaning};
 
+use crate::breakpoints::breakpoints_marked;
 use crate::changed_memory::mm;
-use crate::diagnostics::{push_diagnostic, word_at};
-use crate::leaving::go;
+use crate::diagnostics::word_at;
+use crate::leaving::{go, ss_refusal};
 use crate::refusals::Refusal;
 use crate::registers::{rd, rm};
 use crate::shown_memory::{md, md_count, mdr, mds};
@@ -15,7 +16,7 @@ use crate::variables::{env, set};
 use crate::views::View;
 use crate::{Diagnostic, Kdb, Outcome, Said};
 use hart_ctx::Context;
-use mach_base::{Hart, OutOfMemory, Peek, Text};
+use mach_base::{Hart, Peek, Text};
 use std::alloc::Global;
 use sym_map::Symbols;
 
@@ -41,7 +42,7 @@ fn shown_text<P: Peek>(
 }
 
 /// What a command says, which showed this text and stays in the session.
-fn stay(text: Text) -> Said
+pub fn stay(text: Text) -> Said
     ensures text { result.text ≡ text }
     ensures outcome { result.outcome ≡ Outcome.Stay }
 {
@@ -85,13 +86,39 @@ fn command_answer<P: Peek>(
             set(&mut kdb.env, words)?;
             Ok(stay(Text::from_vec(Vec::new(alloc))))
         }
+        Command::Break(breaking) => {
+            let view = View {
+                mem,
+                ctxs,
+                kdb,
+                names,
+            };
+            let marked = breakpoints_marked(alloc, &view, breaking, words)?;
+            kdb.breaks = marked.breaks;
+            Ok(stay(marked.text))
+        }
+        Command::Ss => {
+            let view = View {
+                mem,
+                ctxs,
+                kdb,
+                names,
+            };
+            match ss_refusal(&view, entry, words) {
+                Some(diagnostic) => Err(Refusal::Diagnosed(diagnostic)),
+                None => Ok(Said {
+                    text: Text::from_vec(Vec::new(alloc)),
+                    outcome: Outcome::Step,
+                }),
+            }
+        }
         Command::Go => go(alloc, mem, ctxs, kdb, names, entry, words),
     }
 }
 
-/// A line of these words, which may be refused.
+/// A line of these words, of which the first names a command.
 #[tactic(auto, unfolding(crate::specs::Commands::words_meaning))]
-fn words_meaning<P: Peek>(
+pub fn words_meaning<P: Peek>(
     alloc: Global,
     mem: &mut P,
     ctxs: &mut [Context],
@@ -110,31 +137,5 @@ fn words_meaning<P: Peek>(
     match command_of(word_at(words, 0)) {
         Some(command) => command_answer(alloc, mem, ctxs, kdb, names, entry, command, words),
         None => Err(Refusal::Diagnosed(Diagnostic::UnknownCommand)),
-    }
-}
-
-/// A line of these words. A diagnostic changes nothing.
-#[tactic(auto, unfolding(crate::specs::Commands::words_answer))]
-pub fn words_answer<P: Peek>(
-    alloc: Global,
-    mem: &mut P,
-    ctxs: &mut [Context],
-    kdb: &mut Kdb,
-    names: &Symbols,
-    entry: Hart,
-    words: &[Text],
-) -> Result<Said, OutOfMemory>
-    requires { kdb.old.current < length ctxs.old }
-    ensures answer { IfOk result (λ said. words_answer entry.0 words.now (state_of ctxs.old (P.memory mem.old) kdb.old names.now) ≡ record { output = said.text; state = state_of ctxs.new (P.memory mem.new) kdb.new names.now; outcome = said.outcome }) }
-    ensures current { kdb.new.current ≡ kdb.old.current }
-{
-    match words_meaning(alloc, mem, ctxs, kdb, names, entry, words) {
-        Ok(said) => Ok(said),
-        Err(Refusal::Diagnosed(diagnostic)) => {
-            let mut out = Vec::new(alloc);
-            push_diagnostic(&mut out, words, diagnostic)?;
-            Ok(stay(Text::from_vec(out)))
-        }
-        Err(Refusal::OutOfMemory) => Err(OutOfMemory),
     }
 }

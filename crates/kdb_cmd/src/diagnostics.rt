@@ -1,8 +1,9 @@
-ghost use Rattle.std.specs.Prelude.{◌≡◌, ◌++◌, OnOk};
+ghost use Rattle.std.specs.Prelude.{◌≡◌, ◌++◌, IfOk, OnOk};
 ghost use Rattle.mach_base.specs.Texts.{newline};
 ghost use Rattle.kdb_cmd.specs.Diagnostics.{number_of, message_text, detail_of, detail_text, word_at, diagnostic_text};
 
 use mach_base::{OutOfMemory, Text, push_address, push_bytes, push_dec, push_newline};
+use std::alloc::Global;
 
 /// Why a line is refused. A word is named by its place in the line; the command's is 0.
 #[derive(Clone, Copy, Debug, PartialEq, Eq)]
@@ -183,7 +184,7 @@ fn push_detail(out: &mut Vec<u8>, words: &[Text], detail: Detail) -> Result<(), 
 
 /// Appends the line of a diagnostic about these words.
 #[tactic(auto, unfolding(crate::specs::Diagnostics::diagnostic_text))]
-pub fn push_diagnostic(
+fn push_diagnostic(
     out: &mut Vec<u8>,
     words: &[Text],
     diagnostic: Diagnostic,
@@ -197,4 +198,13 @@ pub fn push_diagnostic(
     push_detail(out, words, detail_of(diagnostic))?;
     push_newline(out)?;
     Ok(())
+}
+
+/// The line of a diagnostic about these words, as a text.
+pub fn diagnosed(alloc: Global, words: &[Text], diagnostic: Diagnostic) -> Result<Text, OutOfMemory>
+    ensures { IfOk result (λ text. text ≡ diagnostic_text words.now diagnostic) }
+{
+    let mut out = Vec::new(alloc);
+    push_diagnostic(&mut out, words, diagnostic)?;
+    Ok(Text::from_vec(out))
 }

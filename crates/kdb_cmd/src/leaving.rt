@@ -1,7 +1,7 @@
 ghost use Rattle.std.specs.Prelude.{◌≡◌, ◌<◌, length, Ok};
 ghost use Rattle.kdb_cmd.specs.State.{state_of};
 ghost use Rattle.kdb_cmd.specs.Refused.{Changes};
-ghost use Rattle.kdb_cmd.specs.Leaving.{pc_wanted, go_answer};
+ghost use Rattle.kdb_cmd.specs.Leaving.{pc_wanted, go_answer, ss_refusal};
 
 use crate::arguments::argument;
 use crate::refusals::Refusal;
@@ -60,4 +60,21 @@ pub fn go<P: Peek>(
         text: Text::from_vec(Vec::new(alloc)),
         outcome: Outcome::Go,
     })
+}
+
+/// `ss`.
+#[tactic(auto, unfolding(crate::specs::Leaving::ss_refusal))]
+pub fn ss_refusal<P: Peek>(view: &View<P>, entry: Hart, words: &[Text]) -> Option<Diagnostic>
+    ensures { result ≡ ss_refusal entry.0 view.now words.now }
+{
+    if words.len() != 1 {
+        return Some(Diagnostic::WrongArguments);
+    }
+    if view.kdb.current != entry.0 {
+        return Some(Diagnostic::EnteredOn(entry.0));
+    }
+    if view.context().halted {
+        return Some(Diagnostic::IsHalted(view.kdb.current));
+    }
+    None
 }

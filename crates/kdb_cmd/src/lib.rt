@@ -11,12 +11,17 @@
 #![tactic(auto)]
 
 mod arguments;
+mod breakpoints;
 mod changed_memory;
 mod commands;
+mod defining;
 mod diagnostics;
 mod filtered;
+mod frames;
 mod leaving;
 mod lines;
+mod macro_lines;
+mod naming;
 mod outcomes;
 mod refusals;
 mod registers;

@@ -1,59 +1,163 @@
-ghost use Rattle.std.specs.Prelude.{◌≡◌, ◌≤◌, ◌<◌, ◌^◌, true, [], length, IfOk, OnOk};
+ghost use Rattle.std.specs.Prelude.{◌≡◌, ◌≤◌, ◌<◌, ◌^◌, true, false, length, IfOk, OnOk};
 ghost use Rattle.mach_base.specs.Texts.{has_bit};
-ghost use Rattle.kdb_grep.specs.Filter.{pattern_of};
 ghost use Rattle.kdb_cmd.specs.State.{state_of};
-ghost use Rattle.kdb_cmd.specs.Diagnostics.{diagnostic_text};
-ghost use Rattle.kdb_cmd.specs.Filtered.{filtered};
-ghost use Rattle.kdb_cmd.specs.Line.{lex_diagnostic, line_said};
+ghost use Rattle.kdb_cmd.specs.Refused.{Changes};
+ghost use Rattle.kdb_cmd.specs.Line.{outer_meaning, outer_answer, macro_called, words_answer, cut_line, stored_answer, line_said};
 
-use crate::commands::words_answer;
-use crate::diagnostics::push_diagnostic;
-use crate::filtered::filtered;
-use crate::{Diagnostic, Kdb, Outcome, Said};
+use crate::commands::{stay, words_meaning};
+use crate::defining::{begin, store};
+use crate::diagnostics::diagnosed;
+use crate::frames::{through, uncut};
+use crate::macro_lines::run_macro;
+use crate::naming::{Called, named_by};
+use crate::refusals::Refusal;
+use crate::{Diagnostic, Kdb, Said};
 use hart_ctx::Context;
 use kdb_lex::{LexFault, Lexed, lex};
 use mach_base::{Hart, OutOfMemory, Peek, Text};
 use std::alloc::Global;
 use sym_map::Symbols;
 
-fn lex_diagnostic(fault: LexFault) -> Diagnostic
-    ensures { result ≡ lex_diagnostic fault }
+/// A line of these words, which don't call a macro as they should.
+#[tactic(auto, unfolding(crate::specs::Line::outer_meaning))]
+fn outer_meaning<P: Peek>(
+    alloc: Global,
+    mem: &mut P,
+    ctxs: &mut [Context],
+    kdb: &mut Kdb,
+    names: &Symbols,
+    entry: Hart,
+    called: Called,
+    words: &[Text],
+) -> Result<Said, Refusal>
+    requires current { kdb.old.current < length ctxs.old }
+    requires defining { kdb.old.macros.defining ≡ false }
+    ensures answer { Changes result (state_of ctxs.old (P.memory mem.old) kdb.old names.now) (state_of ctxs.new (P.memory mem.new) kdb.new names.now) (outer_meaning entry.0 called words.now (state_of ctxs.old (P.memory mem.old) kdb.old names.now)) }
+    ensures current { kdb.new.current ≡ kdb.old.current }
 {
-    match fault {
-        LexFault::Unclosed => Diagnostic::UnclosedQuote,
-        LexFault::TooManyWords => Diagnostic::TooManyWords,
-        LexFault::BadPipe | LexFault::OutOfMemory => Diagnostic::BadPipe,
+    match called {
+        Called::Command => words_meaning(alloc, mem, ctxs, kdb, names, entry, words),
+        Called::Define => {
+            begin(&mut kdb.macros, words)?;
+            Ok(stay(Text::from_vec(Vec::new(alloc))))
+        }
+        Called::Macro(_) => Err(Refusal::Diagnosed(Diagnostic::WrongArguments)),
     }
 }
 
-/// A line that isn't cut into words.
-fn refused(alloc: Global, fault: LexFault) -> Result<Said, OutOfMemory>
-    ensures text { IfOk result (λ said. said.text ≡ diagnostic_text [] (lex_diagnostic fault)) }
-    ensures outcome { IfOk result (λ said. said.outcome ≡ Outcome.Stay) }
+/// The same. A diagnostic changes nothing.
+#[tactic(auto, unfolding(crate::specs::Line::outer_answer))]
+fn outer_answer<P: Peek>(
+    alloc: Global,
+    mem: &mut P,
+    ctxs: &mut [Context],
+    kdb: &mut Kdb,
+    names: &Symbols,
+    entry: Hart,
+    called: Called,
+    words: &[Text],
+) -> Result<Said, OutOfMemory>
+    requires current { kdb.old.current < length ctxs.old }
+    requires defining { kdb.old.macros.defining ≡ false }
+    ensures answer { IfOk result (λ said. outer_answer entry.0 called words.now (state_of ctxs.old (P.memory mem.old) kdb.old names.now) ≡ record { output = said.text; state = state_of ctxs.new (P.memory mem.new) kdb.new names.now; outcome = said.outcome }) }
+    ensures current { kdb.new.current ≡ kdb.old.current }
 {
-    let mut out = Vec::new(alloc);
-    push_diagnostic(&mut out, &[], lex_diagnostic(fault))?;
-    Ok(Said {
-        text: Text::from_vec(out),
-        outcome: Outcome::Stay,
-    })
+    match outer_meaning(alloc, mem, ctxs, kdb, names, entry, called, words) {
+        Ok(said) => Ok(said),
+        Err(Refusal::Diagnosed(diagnostic)) => {
+            let text = diagnosed(alloc, words, diagnostic)?;
+            Ok(stay(text))
+        }
+        Err(Refusal::OutOfMemory) => Err(OutOfMemory),
+    }
 }
 
-/// What was said, through a filter.
-fn through(alloc: Global, said: Said, pattern: Text) -> Result<Said, OutOfMemory>
-    ensures text { IfOk result (λ kept. kept.text ≡ filtered (pattern_of pattern) said.text) }
-    ensures outcome { IfOk result (λ kept. kept.outcome ≡ said.outcome) }
+/// The macro that a line of these words calls; a call has no arguments.
+fn macro_called(called: Called, words: &[Text]) -> Option<usize>
+    ensures { result ≡ macro_called called words.now }
 {
-    let kept = filtered(alloc, said.text.as_bytes(), pattern.as_bytes())?;
-    Ok(Said {
-        text: Text::from_vec(kept),
-        outcome: said.outcome,
-    })
+    match called {
+        Called::Macro(number) => { if words.len() == 1 { Some(number) } else { None } }
+        Called::Command | Called::Define => None,
+    }
+}
+
+/// A line of these words.
+#[tactic(auto, unfolding(crate::specs::Line::words_answer))]
+fn words_answer<P: Peek>(
+    alloc: Global,
+    mem: &mut P,
+    ctxs: &mut [Context],
+    kdb: &mut Kdb,
+    names: &Symbols,
+    entry: Hart,
+    words: &[Text],
+) -> Result<Said, OutOfMemory>
+    requires current { kdb.old.current < length ctxs.old }
+    requires defining { kdb.old.macros.defining ≡ false }
+    ensures answer { IfOk result (λ said. words_answer entry.0 words.now (state_of ctxs.old (P.memory mem.old) kdb.old names.now) ≡ record { output = said.text; state = state_of ctxs.new (P.memory mem.new) kdb.new names.now; outcome = said.outcome }) }
+    ensures current { OnOk result (kdb.new.current ≡ kdb.old.current) }
+{
+    let called = named_by(&kdb.macros, words);
+    match macro_called(called, words) {
+        Some(number) => run_macro(alloc, mem, ctxs, kdb, names, entry, number),
+        None => outer_answer(alloc, mem, ctxs, kdb, names, entry, called, words),
+    }
+}
+
+/// A line that is cut into words.
+#[tactic(auto, unfolding(crate::specs::Line::cut_line, crate::specs::Frames::framed))]
+fn cut_line<P: Peek>(
+    alloc: Global,
+    mem: &mut P,
+    ctxs: &mut [Context],
+    kdb: &mut Kdb,
+    names: &Symbols,
+    entry: Hart,
+    line: &[u8],
+) -> Result<Said, OutOfMemory>
+    requires current { kdb.old.current < length ctxs.old }
+    requires defining { kdb.old.macros.defining ≡ false }
+    ensures answer { IfOk result (λ said. cut_line entry.0 line.now (state_of ctxs.old (P.memory mem.old) kdb.old names.now) ≡ record { output = said.text; state = state_of ctxs.new (P.memory mem.new) kdb.new names.now; outcome = said.outcome }) }
+    ensures current { OnOk result (kdb.new.current ≡ kdb.old.current) }
+{
+    let Lexed { words, grep } = match lex(alloc, line) {
+        Ok(lexed) => lexed,
+        Err(LexFault::OutOfMemory) => return Err(OutOfMemory),
+        Err(fault) => return uncut(alloc, fault),
+    };
+    let said = words_answer(alloc, mem, ctxs, kdb, names, entry, words.as_slice())?;
+    let said = through(alloc, said, grep)?;
+    Ok(said)
+}
+
+/// A line that is read while a macro is being defined.
+#[tactic(auto, unfolding(crate::specs::Line::stored_answer))]
+fn stored_answer<P: Peek>(
+    alloc: Global,
+    mem: &P,
+    ctxs: &[Context],
+    kdb: &mut Kdb,
+    names: &Symbols,
+    line: &[u8],
+) -> Result<Said, OutOfMemory>
+    requires { kdb.old.macros.defining ≡ true }
+    ensures answer { IfOk result (λ said. stored_answer line.now (state_of ctxs.now (P.memory mem.now) kdb.old names.now) ≡ record { output = said.text; state = state_of ctxs.now (P.memory mem.now) kdb.new names.now; outcome = said.outcome }) }
+    ensures current { kdb.new.current ≡ kdb.old.current }
+{
+    match store(&mut kdb.macros, line) {
+        Ok(()) => Ok(stay(Text::from_vec(Vec::new(alloc)))),
+        Err(Refusal::Diagnosed(diagnostic)) => {
+            let text = diagnosed(alloc, &[], diagnostic)?;
+            Ok(stay(text))
+        }
+        Err(Refusal::OutOfMemory) => Err(OutOfMemory),
+    }
 }
 
 /// Runs one line, without its LF, of a session that was entered on the processor `entry`. Bit k of `gathered` stands for
-/// processor k of the session. A line that is refused prints its diagnostic and changes nothing. After want of memory
-/// nothing is claimed of memory, contexts and `kdb`.
+/// processor k of the session. A line that is refused prints its diagnostic and changes nothing; of a macro's lines
+/// those before it have changed what they change. After want of memory nothing is claimed of memory, contexts and `kdb`.
 #[tactic(auto, unfolding(crate::specs::Line::line_said))]
 pub fn run_line<P: Peek>(
     alloc: Global,
@@ -75,14 +179,10 @@ pub fn run_line<P: Peek>(
     ensures current_there { OnOk result (kdb.new.current < length ctxs.new) }
     ensures current { OnOk result (has_bit gathered kdb.new.current ≡ true) }
 {
-    let Lexed { words, grep } = match lex(alloc, line) {
-        Ok(lexed) => lexed,
-        Err(LexFault::OutOfMemory) => return Err(OutOfMemory),
-        Err(fault) => return refused(alloc, fault),
+    let said = if kdb.macros.defining() {
+        stored_answer(alloc, mem, ctxs, kdb, names, line)?
+    } else {
+        cut_line(alloc, mem, ctxs, kdb, names, entry, line)?
     };
-    let said = words_answer(alloc, mem, ctxs, kdb, names, entry, words.as_slice())?;
-    match grep {
-        Some(pattern) => through(alloc, said, pattern),
-        None => Ok(said),
-    }
+    Ok(said)
 }

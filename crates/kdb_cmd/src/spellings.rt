@@ -2,7 +2,7 @@ ghost use Rattle.std.specs.Prelude.{◌≡◌, ◌≤◌, IfSome};
 ghost use Rattle.std.specs.List.{list_all};
 ghost use Rattle.mach_base.specs.Number.{number_of};
 ghost use Rattle.kdb_mem.specs.Range.{IsWidth};
-ghost use Rattle.kdb_cmd.specs.Spellings.{IsCommand, width_of, is_digit, is_numeral, in_range, count_of, md_of, mm_of, named, command_of};
+ghost use Rattle.kdb_cmd.specs.Spellings.{IsCommand, width_of, is_digit, is_numeral, in_range, count_of, md_of, mm_of, breaking_of, named, command_of};
 
 use mach_base::parse_number;
 
@@ -17,8 +17,31 @@ pub enum Command {
     Rm,
     /// `set`: sets a variable.
     Set,
+    /// A command about breakpoints.
+    Break(Breaking),
+    /// `ss`: leaves the session for one instruction.
+    Ss,
     /// `go`: leaves the session.
     Go,
+}
+
+/// What a command does with breakpoints.
+#[derive(Clone, Copy, Debug, PartialEq, Eq)]
+pub enum Breaking {
+    /// `bp`: sets one.
+    Bp,
+    /// `bl`: shows those that are set.
+    Bl,
+    /// `bc`, `bd`, `be`: changes some of them.
+    Mark(Marking),
+}
+
+/// How a breakpoint is changed.
+#[derive(Clone, Copy, Debug, PartialEq, Eq)]
+pub enum Marking {
+    Clear,
+    Disable,
+    Enable,
 }
 
 /// What a command shows.
@@ -47,7 +70,30 @@ pub fn command_of(word: &[u8]) -> Option<Command>
     match word {
         [b'm', b'd', rest @ ..] => md_of(rest),
         [b'm', b'm', rest @ ..] => mm_of(rest),
-        _ => named(word),
+        _ => match breaking_of(word) {
+            Some(breaking) => Some(Command::Break(breaking)),
+            None => named(word),
+        },
+    }
+}
+
+/// The commands about breakpoints.
+#[tactic(auto, unfolding(crate::specs::Spellings::breaking_of))]
+fn breaking_of(word: &[u8]) -> Option<Breaking>
+    ensures { result ≡ breaking_of word.now }
+{
+    if word == b"bp".as_slice() {
+        Some(Breaking::Bp)
+    } else if word == b"bl".as_slice() {
+        Some(Breaking::Bl)
+    } else if word == b"bc".as_slice() {
+        Some(Breaking::Mark(Marking::Clear))
+    } else if word == b"bd".as_slice() {
+        Some(Breaking::Mark(Marking::Disable))
+    } else if word == b"be".as_slice() {
+        Some(Breaking::Mark(Marking::Enable))
+    } else {
+        None
     }
 }
 
@@ -99,6 +145,8 @@ fn named(word: &[u8]) -> Option<Command>
         Some(Command::Show(Showing::Env))
     } else if word == b"set".as_slice() {
         Some(Command::Set)
+    } else if word == b"ss".as_slice() {
+        Some(Command::Ss)
     } else if word == b"go".as_slice() {
         Some(Command::Go)
     } else {

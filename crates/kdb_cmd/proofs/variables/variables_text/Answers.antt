@@ -1,4 +1,4 @@
-use Rattle.std.proofs.Common.{◌≡◌, ◌+◌, ◌≤◌, length, ◌++◌, ap, ◌∙◌, arith, length-append}
+use Rattle.std.proofs.Common.{◌∙◌, arith}
 use Rattle.kdb_cmd.proofs.Printed.{line_more, line_within, line_fits, all_lines}
 use Rattle.kdb_cmd.proofs.variables.variables_text.Goals as goal
 

@@ -1,0 +1,297 @@
+ghost use Rattle.std.specs.Prelude.{◌≡◌, ◌++◌, unwrap_or, OnOk, IfOk};
+ghost use Rattle.kdb_cmd.specs.Refused.{Answers};
+ghost use Rattle.kdb_cmd.specs.Breakpoints.{state_word, breakpoint_line, place_line, first_lines, bl_text, bl_marked, fault_diagnostic, placed, bp_marked, change_word, change_line, changed_at, line_of_change, changed_first, changed_lines, one_changed, word_changed, mark_marked, breakpoints_marked};
+
+use crate::Diagnostic;
+use crate::arguments::argument;
+use crate::diagnostics::word_at;
+use crate::refusals::Refusal;
+use crate::spellings::{Breaking, Marking};
+use crate::views::View;
+use kdb_bp::{BpFault, Breaks, Place};
+use mach_base::{OutOfMemory, Peek, Text, parse_number, push_bytes, push_dec, push_newline};
+use std::alloc::Global;
+use sym_map::{Symbols, push_place};
+
+/// What a command about breakpoints prints, and the places that it leaves.
+#[derive(Debug, Drop)]
+pub struct Marked {
+    pub text: Text,
+    pub breaks: Breaks,
+}
+
+#[tactic(auto, unfolding(crate::specs::Breakpoints::breakpoint_line))]
+fn push_breakpoint(
+    out: &mut Vec<u8>,
+    names: &Symbols,
+    number: u8,
+    place: Place,
+) -> Result<(), OutOfMemory>
+    ensures { OnOk result (out.new.items ≡ out.old.items ++ breakpoint_line names.now number place) }
+{
+    push_bytes(out, b"BP #")?;
+    push_dec(out, u64::from(number))?;
+    push_bytes(out, b" at ")?;
+    push_place(out, names, place.addr)?;
+    push_bytes(out, state_word(place.enabled).as_bytes())?;
+    push_newline(out)?;
+    Ok(())
+}
+
+fn state_word(enabled: bool) -> &'static str
+    ensures { result.now ≡ state_word enabled }
+{
+    if enabled { " enabled" } else { " disabled" }
+}
+
+/// The line of a place that is set, and nothing for one that is empty.
+fn push_if_set(
+    out: &mut Vec<u8>,
+    names: &Symbols,
+    number: u8,
+    place: Option<Place>,
+) -> Result<(), OutOfMemory>
+    ensures { OnOk result (out.new.items ≡ out.old.items ++ place_line names.now number place) }
+{
+    if let Some(place) = place {
+        push_breakpoint(out, names, number, place)?;
+    }
+    Ok(())
+}
+
+fn push_places(out: &mut Vec<u8>, names: &Symbols, breaks: Breaks) -> Result<(), OutOfMemory>
+    ensures { OnOk result (out.new.items ≡ out.old.items ++ first_lines names.now breaks 16) }
+{
+    for number in 0..16u8 {
+        push_if_set(out, names, number, breaks.at(number))?;
+    }
+    Ok(())
+}
+
+/// `bl`: the places that are set.
+#[tactic(auto, unfolding(crate::specs::Breakpoints::bl_text))]
+fn bl_text(alloc: Global, names: &Symbols, breaks: Breaks) -> Result<Text, OutOfMemory>
+    ensures { IfOk result (λ text. text ≡ bl_text names.now breaks) }
+{
+    let mut out = Vec::new(alloc);
+    push_places(&mut out, names, breaks)?;
+    if out.is_empty() {
+        push_bytes(&mut out, b"No breakpoints are set")?;
+        push_newline(&mut out)?;
+    }
+    Ok(Text::from_vec(out))
+}
+
+fn bl_marked<P: Peek>(alloc: Global, view: &View<P>) -> Result<Marked, Refusal>
+    ensures { Answers result (bl_marked view.now) }
+{
+    let text = bl_text(alloc, view.names, view.kdb.breaks)?;
+    Ok(Marked {
+        text,
+        breaks: view.kdb.breaks,
+    })
+}
+
+fn fault_diagnostic(fault: BpFault, addr: u64) -> Diagnostic
+    ensures { result ≡ fault_diagnostic addr fault }
+{
+    match fault {
+        BpFault::BadAddr => Diagnostic::BadAddress(addr),
+        BpFault::NotText => Diagnostic::NotText(addr),
+        BpFault::Duplicate => Diagnostic::Duplicate,
+        BpFault::TooMany | BpFault::NotFound => Diagnostic::TooManyBreakpoints,
+    }
+}
+
+/// A breakpoint more, at this address.
+fn placed<P: Peek>(alloc: Global, view: &View<P>, addr: u64) -> Result<Marked, Refusal>
+    ensures { Answers result (placed view.now addr) }
+{
+    let mut breaks = view.kdb.breaks;
+    match breaks.add(view.mem, addr) {
+        Ok(number) => {
+            let mut out = Vec::new(alloc);
+            let place = Place {
+                addr,
+                enabled: true,
+            };
+            push_breakpoint(&mut out, view.names, number, place)?;
+            Ok(Marked {
+                text: Text::from_vec(out),
+                breaks,
+            })
+        }
+        Err(fault) => Err(Refusal::Diagnosed(fault_diagnostic(fault, addr))),
+    }
+}
+
+/// `bp [E]`.
+#[tactic(auto, unfolding(crate::specs::Breakpoints::bp_marked))]
+fn bp_marked<P: Peek>(alloc: Global, view: &View<P>, words: &[Text]) -> Result<Marked, Refusal>
+    ensures { Answers result (bp_marked view.now words.now) }
+{
+    if words.len() == 1 {
+        return bl_marked(alloc, view);
+    }
+    if words.len() != 2 {
+        return Err(Refusal::Diagnosed(Diagnostic::WrongArguments));
+    }
+    let addr = argument(view, words, 1)?;
+    placed(alloc, view, addr)
+}
+
+fn change_word(marking: Marking) -> &'static str
+    ensures { result.now ≡ change_word marking }
+{
+    match marking {
+        Marking::Clear => " cleared",
+        Marking::Disable => " disabled",
+        Marking::Enable => " enabled",
+    }
+}
+
+#[tactic(auto, unfolding(crate::specs::Breakpoints::change_line))]
+fn push_change(out: &mut Vec<u8>, marking: Marking, number: u8) -> Result<(), OutOfMemory>
+    ensures { OnOk result (out.new.items ≡ out.old.items ++ change_line marking number) }
+{
+    push_bytes(out, b"BP #")?;
+    push_dec(out, u64::from(number))?;
+    push_bytes(out, change_word(marking).as_bytes())?;
+    push_newline(out)?;
+    Ok(())
+}
+
+/// The places once the one of a number is changed; None exactly where it is empty.
+#[tactic(auto, using(crate::proofs::Places::is_none_not))]
+fn changed_at(mut breaks: Breaks, marking: Marking, number: u8) -> Option<Breaks>
+    ensures { result ≡ changed_at marking breaks number }
+{
+    let done = match marking {
+        Marking::Clear => breaks.clear(number),
+        Marking::Disable => breaks.enable(number, false),
+        Marking::Enable => breaks.enable(number, true),
+    };
+    match done {
+        Ok(()) => Some(breaks),
+        Err(_) => None,
+    }
+}
+
+/// Changes the place of a number and appends its line, if it is set.
+fn change_if_set(
+    out: &mut Vec<u8>,
+    breaks: &mut Breaks,
+    marking: Marking,
+    number: u8,
+) -> Result<(), OutOfMemory>
+    ensures text { OnOk result (out.new.items ≡ out.old.items ++ line_of_change marking number (changed_at marking breaks.old number)) }
+    ensures places { OnOk result (breaks.new ≡ unwrap_or (changed_at marking breaks.old number) breaks.old) }
+{
+    if let Some(changed) = changed_at(*breaks, marking, number) {
+        push_change(out, marking, number)?;
+        *breaks = changed;
+    }
+    Ok(())
+}
+
+/// Changes each place that is set.
+fn all_changed(alloc: Global, breaks: Breaks, marking: Marking) -> Result<Marked, OutOfMemory>
+    ensures text { IfOk result (λ m. m.text ≡ changed_lines marking breaks 16) }
+    ensures places { IfOk result (λ m. m.breaks ≡ changed_first marking breaks 16) }
+{
+    let mut out = Vec::new(alloc);
+    let mut changed = breaks;
+    for number in 0..16u8 {
+        change_if_set(&mut out, &mut changed, marking, number)?;
+    }
+    Ok(Marked {
+        text: Text::from_vec(out),
+        breaks: changed,
+    })
+}
+
+/// Changes the place of a number.
+fn one_changed(
+    alloc: Global,
+    breaks: Breaks,
+    marking: Marking,
+    number: u64,
+) -> Result<Marked, Refusal>
+    ensures { Answers result (one_changed breaks marking number) }
+{
+    if number > 15 {
+        return Err(Refusal::Diagnosed(Diagnostic::NoBreakpoint(number)));
+    }
+    match changed_at(breaks, marking, number as u8) {
+        Some(changed) => {
+            let mut out = Vec::new(alloc);
+            push_change(&mut out, marking, number as u8)?;
+            Ok(Marked {
+                text: Text::from_vec(out),
+                breaks: changed,
+            })
+        }
+        None => Err(Refusal::Diagnosed(Diagnostic::NoBreakpoint(number))),
+    }
+}
+
+/// The places that a word names, `*` or a number, are changed.
+#[tactic(auto, unfolding(crate::specs::Breakpoints::word_changed))]
+fn word_changed(
+    alloc: Global,
+    breaks: Breaks,
+    marking: Marking,
+    word: &[u8],
+) -> Result<Marked, Refusal>
+    ensures { Answers result (word_changed breaks marking word.now) }
+{
+    if word == b"*".as_slice() {
+        let marked = all_changed(alloc, breaks, marking)?;
+        return Ok(marked);
+    }
+    match parse_number(word, 10) {
+        Ok(number) => one_changed(alloc, breaks, marking, number),
+        Err(_) => Err(Refusal::Diagnosed(Diagnostic::BadNumber(1))),
+    }
+}
+
+/// `bc [N]`, `bd [N]`, `be [N]`.
+#[tactic(auto, unfolding(crate::specs::Breakpoints::mark_marked))]
+fn mark_marked<P: Peek>(
+    alloc: Global,
+    view: &View<P>,
+    marking: Marking,
+    words: &[Text],
+) -> Result<Marked, Refusal>
+    ensures { Answers result (mark_marked view.now marking words.now) }
+{
+    if words.len() == 1 {
+        return bl_marked(alloc, view);
+    }
+    if words.len() != 2 {
+        return Err(Refusal::Diagnosed(Diagnostic::WrongArguments));
+    }
+    word_changed(alloc, view.kdb.breaks, marking, word_at(words, 1))
+}
+
+/// A command about breakpoints.
+#[tactic(auto, unfolding(crate::specs::Breakpoints::breakpoints_marked))]
+pub fn breakpoints_marked<P: Peek>(
+    alloc: Global,
+    view: &View<P>,
+    breaking: Breaking,
+    words: &[Text],
+) -> Result<Marked, Refusal>
+    ensures { Answers result (breakpoints_marked view.now breaking words.now) }
+{
+    match breaking {
+        Breaking::Bp => bp_marked(alloc, view, words),
+        Breaking::Bl => {
+            if words.len() != 1 {
+                return Err(Refusal::Diagnosed(Diagnostic::WrongArguments));
+            }
+            bl_marked(alloc, view)
+        }
+        Breaking::Mark(marking) => mark_marked(alloc, view, marking, words),
+    }
+}
