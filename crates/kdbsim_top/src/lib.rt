@@ -13,6 +13,8 @@ mod report;
 mod run;
 mod status;
 #[cfg(test)]
+mod stop_tests;
+#[cfg(test)]
 mod tests;
 mod top;
 mod words;

@@ -11,7 +11,7 @@ const I0: &str = "kimg 1\ntext 0x1000 16\nw 0x00500513 0x00100073 0x00000073\n";
 const INTERRUPT: &str =
     "kimg 1\ntext 0x1000 40\nw 0x00500893 0x00001537 0x02050513 0x00000073 0x00600893 0x00000513 0x00000073 0x00100073\nw 0x00700893 0x00000073\n";
 
-const START: &str = "Entering kdb on processor 0 due to Start @ 0x0000000000001000\n";
+pub const START: &str = "Entering kdb on processor 0 due to Start @ 0x0000000000001000\n";
 
 fn text(alloc: Global, bytes: &[u8]) -> Result<Text, AllocError> {
     Ok(Text::from_vec(Vec::from_slice(alloc, bytes)?))
@@ -39,7 +39,7 @@ fn words(alloc: Global, line: &str) -> Result<Vec<String>, AllocError> {
 }
 
 /// The answer to `uni i s`, and what was printed.
-fn answer(alloc: Global, image: &str, script: &[u8]) -> Result<(Status, Text), AllocError> {
+pub fn answer(alloc: Global, image: &str, script: &[u8]) -> Result<(Status, Text), AllocError> {
     let mut shelf = SureShelf::new(alloc, files(alloc, image, script)?);
     let mut sink = SureSink::new(alloc);
     let words = words(alloc, "uni i s")?;
@@ -63,11 +63,11 @@ fn runs_print_their_transcripts(rt: HostRuntime) -> Result<(), Fail> {
         ),
         (
             I0,
-            "bp 1000\n",
+            "bta 1000\n",
             Ending::ScriptEnd,
             [
                 START,
-                "[0]kdb> bp 1000\ndiag: 5: unknown command bp\n",
+                "[0]kdb> bta 1000\ndiag: 5: unknown command bta\n",
                 "[0]kdb> \n",
                 "kdbsim: script end after 0 steps\n",
             ],
@@ -198,6 +198,7 @@ fn runs_print_their_transcripts(rt: HostRuntime) -> Result<(), Fail> {
 const RESERVED: &str =
     "kimg 1\ntext 0x1000 24\nw 0x000025b7 0x1005b52f 0x00100073 0x18a5b62f 0x00100073 0x00000073\ndata 0x2000 8\n";
 
+/// An `ecall`, and 16 bytes of data.
 const DATA: &str = "kimg 1\ntext 0x1000 8\nw 0x00000073\ndata 0x2000 16\n";
 
 #[test]
