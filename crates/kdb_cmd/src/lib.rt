@@ -33,8 +33,7 @@ mod tests;
 mod variables;
 mod views;
 
-pub use diagnostics::Diagnostic;
+use diagnostics::Diagnostic;
 pub use lines::run_line;
 pub use outcomes::{Outcome, Said};
 pub use session::Kdb;
-pub use spellings::{Command, Showing, command_of};

@@ -279,3 +279,130 @@ fn changes_registers_and_leaves(rt: HostRuntime) -> Result<(), Fail> {
     bench.kdb.current = 1;
     lines_print(&rt, rt.alloc(), &mut bench, &ELSEWHERE)
 }
+
+static BREAKPOINTS: [Row; 15] = [
+    (b"bl", b"No breakpoints are set\n"),
+    (b"bp 1000", b"BP #0 at 0x0000000000001000 (start) enabled\n"),
+    (
+        b"bp start+8",
+        b"BP #1 at 0x0000000000001008 (start+0x8) enabled\n",
+    ),
+    (b"bd *", b"BP #0 disabled\nBP #1 disabled\n"),
+    (
+        b"bl | grep #0",
+        b"BP #0 at 0x0000000000001000 (start) disabled\n",
+    ),
+    (b"be 0", b"BP #0 enabled\n"),
+    (b"bc 3", b"diag: 9: no breakpoint 3\n"),
+    (b"bc 16", b"diag: 9: no breakpoint 16\n"),
+    (b"bc x", b"diag: 11: bad number x\n"),
+    (b"bc 1", b"BP #1 cleared\n"),
+    (b"bc", b"BP #0 at 0x0000000000001000 (start) enabled\n"),
+    (b"bp 1000", b"diag: 8: duplicate\n"),
+    (b"bp 2000", b"diag: 13: not text 0x0000000000002000\n"),
+    (b"bp 1002", b"diag: 12: bad address 0x0000000000001002\n"),
+    (b"bl 1", b"diag: 2: wrong number of arguments\n"),
+];
+
+/// Fifteen breakpoints more, whose lines don't pass the filter.
+static FURTHER: [Row; 16] = [
+    (b"bp 1004 | grep x$", b""),
+    (b"bp 1008 | grep x$", b""),
+    (b"bp 100c | grep x$", b""),
+    (b"bp 1010 | grep x$", b""),
+    (b"bp 1014 | grep x$", b""),
+    (b"bp 1018 | grep x$", b""),
+    (b"bp 101c | grep x$", b""),
+    (b"bp 1020 | grep x$", b""),
+    (b"bp 1024 | grep x$", b""),
+    (b"bp 1028 | grep x$", b""),
+    (b"bp 102c | grep x$", b""),
+    (b"bp 1030 | grep x$", b""),
+    (b"bp 1034 | grep x$", b""),
+    (b"bp 1038 | grep x$", b""),
+    (b"bp 103c | grep x$", b""),
+    (b"bp 1040", b"diag: 7: too many breakpoints\n"),
+];
+
+#[test]
+fn sets_and_changes_breakpoints(rt: HostRuntime) -> Result<(), Fail> {
+    let mut bench = Bench::new(rt.alloc())?;
+    lines_print(&rt, rt.alloc(), &mut bench, &BREAKPOINTS)?;
+    lines_print(&rt, rt.alloc(), &mut bench, &FURTHER)
+}
+
+static HALTED: [Row; 2] = [
+    (b"ss x", b"diag: 2: wrong number of arguments\n"),
+    (b"ss", b"diag: 16: cpu 0 is halted\n"),
+];
+
+#[test]
+fn steps_but_not_where_it_is_halted(rt: HostRuntime) -> Result<(), Fail> {
+    let mut bench = Bench::new(rt.alloc())?;
+    let said = bench.line(rt.alloc(), b"ss")?;
+    assert_eq!(rt; said.outcome, Outcome::Step);
+    let mut context = bench.ctxs[0];
+    context.halted = true;
+    bench.ctxs[0] = context;
+    lines_print(&rt, rt.alloc(), &mut bench, &HALTED)
+}
+
+static DEFINITIONS: [Row; 14] = [
+    (b"defcmd w", b""),
+    (b"md1c1 face", b""),
+    (b" # nothing", b""),
+    (b"zork", b""),
+    (b"go | grep a", b""),
+    (b"md1c1 face+1", b""),
+    (b" endefcmd\t", b""),
+    (b"defcmd v usage help", b""),
+    (b"w 1", b""),
+    (b"md1c1 face+8", b""),
+    (b"endefcmd", b""),
+    (
+        b"v",
+        b"diag: 18: nested macro w\n0x0000000000002008 41  A\n",
+    ),
+    (b"v | grep ^0x", b"0x0000000000002008 41  A\n"),
+    (b"v 1", b"diag: 2: wrong number of arguments\n"),
+];
+
+static NO_DEFINITIONS: [Row; 6] = [
+    (b"endefcmd", b"diag: 5: unknown command endefcmd\n"),
+    (b"defcmd", b"diag: 2: wrong number of arguments\n"),
+    (b"defcmd md4c0", b"diag: 19: reserved name md4c0\n"),
+    (b"defcmd cpu", b"diag: 19: reserved name cpu\n"),
+    (b"defcmd w", b"diag: 8: duplicate\n"),
+    (b"defcmd 1a", b"diag: 24: bad name 1a\n"),
+];
+
+#[test]
+fn calls_macros_until_a_line_leaves(rt: HostRuntime) -> Result<(), Fail> {
+    let mut bench = Bench::new(rt.alloc())?;
+    lines_print(&rt, rt.alloc(), &mut bench, &DEFINITIONS)?;
+    lines_print(&rt, rt.alloc(), &mut bench, &NO_DEFINITIONS)?;
+    let said = bench.line(rt.alloc(), b"w")?;
+    assert_eq!(rt; said.outcome, Outcome::Go);
+    assert_eq!(rt;
+        said.text.as_bytes(),
+        b"0x0000000000002000 88  .\ndiag: 5: unknown command zork\n".as_slice()
+    );
+    Ok(())
+}
+
+static LAST_LINES: [Row; 2] = [(b"rd", b"diag: 20: macro is full\n"), (b"endefcmd", b"")];
+
+#[test]
+fn a_macro_has_32_lines(rt: HostRuntime) -> Result<(), Fail> {
+    let mut bench = Bench::new(rt.alloc())?;
+    let begun = bench.line(rt.alloc(), b"defcmd w")?;
+    assert!(rt; begun.text.as_bytes().is_empty());
+    for _i in 0..32u8 {
+        let said = bench.line(rt.alloc(), b"rd | grep pc")?;
+        assert!(rt; said.text.as_bytes().is_empty());
+    }
+    lines_print(&rt, rt.alloc(), &mut bench, &LAST_LINES)?;
+    let said = bench.line(rt.alloc(), b"w")?;
+    assert_eq!(rt; said.text.as_bytes().len(), 32 * 23);
+    Ok(())
+}

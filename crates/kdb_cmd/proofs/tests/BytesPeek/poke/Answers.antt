@@ -1,7 +1,7 @@
-use Rattle.std.proofs.Common.{◌≡◌, ◌<◌, ◌≤◌, [], ◌∷◌, length, set, refl, ap, ◌∙◌, arith}
+use Rattle.std.proofs.Common.{◌<◌, ◌≤◌, [], ◌∷◌, length, set, refl, ap, ◌∙◌, arith}
 use Rattle.std.specs.Ordering.{nat_cmp}
 use Rattle.std.specs.FinMap.{from_entries}
-use Rattle.mach_base.specs.Machine.{Memory, numbered}
+use Rattle.mach_base.specs.Machine.{numbered}
 use Rattle.mach_base.specs.declared.memory_range.Kind.TheVariants.{Text as TextKind}
 use Rattle.kdb_mem.proofs.Bytes.{insert_numbered, mapped_within, unmapped_past}
 use Rattle.kdb_cmd.proofs.tests.BytesPeek.poke.Goals as goal
