@@ -2,7 +2,7 @@ use Rattle.std.proofs.Common.{◌≡◌, ℕ, ◌<◌, ◌≤◌, sym, subst}
 use Rattle.std.specs.Prelude.{IsTrue}
 use Rattle.deck_core.specs.Told.{Told}
 use Rattle.deck_core.specs.Configuration.{Configuration}
-use Rattle.deck_core.specs.Contract.{Acts, is_allowed}
+use Rattle.deck_core.specs.Contract.{HonestCall, is_allowed}
 use Rattle.deck_core.specs.Seats.{configuration_of}
 use Rattle.deck_core.specs.Seat.{is_idle}
 use Rattle.deck_core.specs.Tick.{act_of, after_answer, gives, CanGoOn}
@@ -36,15 +36,16 @@ invariant_of-self g c =
     let old : Configuration = configuration_of s.limit s.seats b in
     let next : Configuration = configuration_of s.limit c.gives.new.seats b2 in
     let p : Phase = after_answer b.harts h (old.phase h) a in
-    let acts : Acts (act_of h (old.phase h)) b a b2 = subst (λ x. Acts x b a b2) c.requires.own_call c.call-answer.ensures.acts in
+    let acts : HonestCall (act_of h (old.phase h)) b a b2 = subst (λ x. HonestCall x b a b2) c.requires.own_call c.call-answer.ensures.acts in
     let harts : b2.harts ≡ b.harts = acts_harts (act_of h (old.phase h)) b b2 a acts.does in
     let leads : c.after_answer-next.result ≡ p =
-      answered b.harts c.harts-harts.result h (old.phase h) c.phase_of-phase.result c.after_answer-next.result a c.after_answer-next.ensures c.harts-harts.ensures c.phase_of-phase.ensures in
+    answered b.harts c.harts-harts.result h (old.phase h) c.phase_of-phase.result c.after_answer-next.result a c.after_answer-next.ensures c.harts-harts.ensures c.phase_of-phase.ensures in
     let moves : next ≡ gives h p b2 old = gives_to old next h p c.after_answer-next.result b2 (c.gives.ensures s.limit b b2 c.mask-mask.ensures) leads in
     record {
       selected_is_one = subst (λ n. h < n) (sym harts) s.selected_is_one;
       few = subst (λ n. n ≤ 32) (sym harts) s.few;
-      sound = sound_on old next h s.sound s.selected_is_one (give_ticks old next h a b2 c.requires.phase c.requires.place acts moves) }
+      sound = sound_on old next h s.sound s.selected_is_one (give_ticks old next h a b2 c.requires.phase c.requires.place acts moves);
+    }
 
 pub returns-clause-answer : goal.returns-clause-answer
 returns-clause-answer g c =
@@ -60,10 +61,10 @@ returns-clause-seat g c =
     let old : Configuration = configuration_of s.limit s.seats b in
     let next : Configuration = configuration_of s.limit c.gives.new.seats b2 in
     let p : Phase = after_answer b.harts h (old.phase h) a in
-    let acts : Acts (act_of h (old.phase h)) b a b2 = subst (λ x. Acts x b a b2) c.requires.own_call c.call-answer.ensures.acts in
+    let acts : HonestCall (act_of h (old.phase h)) b a b2 = subst (λ x. HonestCall x b a b2) c.requires.own_call c.call-answer.ensures.acts in
     let harts : b2.harts ≡ b.harts = acts_harts (act_of h (old.phase h)) b b2 a acts.does in
     let leads : c.after_answer-next.result ≡ p =
-      answered b.harts c.harts-harts.result h (old.phase h) c.phase_of-phase.result c.after_answer-next.result a c.after_answer-next.ensures c.harts-harts.ensures c.phase_of-phase.ensures in
+    answered b.harts c.harts-harts.result h (old.phase h) c.phase_of-phase.result c.after_answer-next.result a c.after_answer-next.ensures c.harts-harts.ensures c.phase_of-phase.ensures in
     let moves : next ≡ gives h p b2 old = gives_to old next h p c.after_answer-next.result b2 (c.gives.ensures s.limit b b2 c.mask-mask.ensures) leads in
     give_seat_idle old next h p b2 c.is_idle-self.result (is_idle a) s.idle harts moves c.is_idle-self.ensures
 
@@ -77,9 +78,9 @@ returns-clause-ticks g c =
     let old : Configuration = configuration_of s.limit s.seats b in
     let next : Configuration = configuration_of s.limit c.gives.new.seats b2 in
     let p : Phase = after_answer b.harts h (old.phase h) a in
-    let acts : Acts (act_of h (old.phase h)) b a b2 = subst (λ x. Acts x b a b2) c.requires.own_call c.call-answer.ensures.acts in
+    let acts : HonestCall (act_of h (old.phase h)) b a b2 = subst (λ x. HonestCall x b a b2) c.requires.own_call c.call-answer.ensures.acts in
     let harts : b2.harts ≡ b.harts = acts_harts (act_of h (old.phase h)) b b2 a acts.does in
     let leads : c.after_answer-next.result ≡ p =
-      answered b.harts c.harts-harts.result h (old.phase h) c.phase_of-phase.result c.after_answer-next.result a c.after_answer-next.ensures c.harts-harts.ensures c.phase_of-phase.ensures in
+    answered b.harts c.harts-harts.result h (old.phase h) c.phase_of-phase.result c.after_answer-next.result a c.after_answer-next.ensures c.harts-harts.ensures c.phase_of-phase.ensures in
     let moves : next ≡ gives h p b2 old = gives_to old next h p c.after_answer-next.result b2 (c.gives.ensures s.limit b b2 c.mask-mask.ensures) leads in
     whole_gives old next h a b2 c.requires.phase c.requires.place acts moves

@@ -16,8 +16,8 @@ invariant_of-self g c =
     let next : Configuration = configuration_of s.limit c.enters.new.seats b in
     let looks : Looks = c.in-Gather.looks in
     let moves : next ≡ enters h (after_look s.limit b.harts h looks c.is_marked-counts.result) old =
-      enters_to old next h (after_look s.limit b.harts h looks c.is_marked-counts.result) c.after_look-next.result (c.enters.ensures s.limit b)
-        (looked_at s.limit b.harts c.harts.result h looks c.is_marked-counts.result c.after_look-next.result c.after_look-next.ensures c.harts.ensures) in
+    enters_to old next h (after_look s.limit b.harts h looks c.is_marked-counts.result) c.after_look-next.result (c.enters.ensures s.limit b)
+    (looked_at s.limit b.harts c.harts.result h looks c.is_marked-counts.result c.after_look-next.result c.after_look-next.ensures c.harts.ensures) in
     record { selected_is_one = s.selected_is_one; few = s.few; sound = sound_on old next h s.sound s.selected_is_one (look_ticks old next h looks c.args.k.0 c.is_marked-counts.result (sym c.in-Gather.ensures) c.requires.next c.is_marked-counts.ensures moves) }
 
 pub returns-clause-seat : goal.returns-clause-seat
@@ -29,8 +29,8 @@ returns-clause-seat g c =
     let next : Configuration = configuration_of s.limit c.enters.new.seats b in
     let looks : Looks = c.in-Gather.looks in
     let moves : next ≡ enters h (after_look s.limit b.harts h looks c.is_marked-counts.result) old =
-      enters_to old next h (after_look s.limit b.harts h looks c.is_marked-counts.result) c.after_look-next.result (c.enters.ensures s.limit b)
-        (looked_at s.limit b.harts c.harts.result h looks c.is_marked-counts.result c.after_look-next.result c.after_look-next.ensures c.harts.ensures) in
+    enters_to old next h (after_look s.limit b.harts h looks c.is_marked-counts.result) c.after_look-next.result (c.enters.ensures s.limit b)
+    (looked_at s.limit b.harts c.harts.result h looks c.is_marked-counts.result c.after_look-next.result c.after_look-next.ensures c.harts.ensures) in
     look_seat old next h looks c.is_marked-counts.result s.idle (sym c.in-Gather.ensures) moves
 
 pub returns-clause-ticks : goal.returns-clause-ticks
@@ -42,6 +42,6 @@ returns-clause-ticks g c =
     let next : Configuration = configuration_of s.limit c.enters.new.seats b in
     let looks : Looks = c.in-Gather.looks in
     let moves : next ≡ enters h (after_look s.limit b.harts h looks c.is_marked-counts.result) old =
-      enters_to old next h (after_look s.limit b.harts h looks c.is_marked-counts.result) c.after_look-next.result (c.enters.ensures s.limit b)
-        (looked_at s.limit b.harts c.harts.result h looks c.is_marked-counts.result c.after_look-next.result c.after_look-next.ensures c.harts.ensures) in
+    enters_to old next h (after_look s.limit b.harts h looks c.is_marked-counts.result) c.after_look-next.result (c.enters.ensures s.limit b)
+    (looked_at s.limit b.harts c.harts.result h looks c.is_marked-counts.result c.after_look-next.result c.after_look-next.ensures c.harts.ensures) in
     whole_on old next h (look_ticks old next h looks c.args.k.0 c.is_marked-counts.result (sym c.in-Gather.ensures) c.requires.next c.is_marked-counts.ensures moves)
