@@ -5,7 +5,7 @@ use Rattle.deck_core.specs.Words.{has, least}
 use Rattle.deck_core.specs.Phases.{is_masters, is_shut, is_in_session, is_at_gate, late_of, is_marked, holds, called}
 use Rattle.deck_core.specs.Told.{Told}
 use Rattle.deck_core.specs.Configuration.{Configuration, lead_of}
-use Rattle.deck_core.specs.Contract.{Acts, is_lines, is_pass, is_leaving, comes_back}
+use Rattle.deck_core.specs.Contract.{HonestCall, is_lines, is_pass, is_leaving, comes_back}
 use Rattle.deck_core.specs.Tick.{act_of, check_answer, after_check}
 use Rattle.deck_core.specs.Invariant.{Sound, LateFits, IsPlanting, StepFits, MayPlantStep, session_fits, stage_fits, bit, openings}
 use Rattle.deck_core.specs.declared.notes.Sitting.{Sitting}
@@ -17,7 +17,7 @@ use Rattle.deck_core.specs.declared.phase.Place.TheVariants as place
 use Rattle.deck_core.specs.declared.phase.Kept.{Kept}
 use Rattle.deck_core.specs.declared.phase.Then.{Then}
 use Rattle.deck_core.specs.declared.phase.Then.TheVariants as follow
-use Rattle.deck_core.specs.Contract.{is_allowed, is_legal, names_what_is, in_session, is_of, may_open, may_pull_step, is_address}
+use Rattle.deck_core.specs.Contract.{is_allowed, is_legal, names_are_there, in_session, is_of, may_open, may_pull_step, is_address}
 use Rattle.deck_core.specs.Tick.{tick, tick_in, is_transaction, transacts, after_answer}
 use Rattle.deck_core.specs.declared.phase.Place.{Place}
 use Rattle.deck_core.specs.Laws.{CallIsAllowed, OneMaster, RunsUnmasked, SessionsNeverOverlap, GoneTrapDrops, GateIsBounded}
@@ -31,10 +31,10 @@ use Rattle.deck_core.proofs.Enters.{enter_step}
 use Rattle.deck_core.proofs.Sessions.{least_below}
 use Rattle.std.proofs.Math.Nat.{mul-le-mul_left}
 
-allowed_from : (a : Act) (b : Told) → names_what_is a b.harts ≡ true → (b.over ≡ false → is_legal a b ≡ true) → is_allowed a b ≡ true
+allowed_from : (a : Act) (b : Told) → names_are_there a b.harts ≡ true → (b.over ≡ false → is_legal a b ≡ true) → is_allowed a b ≡ true
 unfolding is_allowed
 allowed_from a b names legal =
-    and_from (names_what_is a b.harts) (b.over || is_legal a b) names
+    and_from (names_are_there a b.harts) (b.over || is_legal a b) names
     (elim (cases_Bool b.over) [ inl o ↦ or_left b.over (is_legal a b) o | inr w ↦ or_right b.over (is_legal a b) (legal w) ])
 
 -- what the session of the master's phase is known to be
@@ -91,7 +91,7 @@ send_allowed c h to s e =
     (sends_less c.told.harts (openings c.gate) c.told.lines c.told.sends (called c.told.harts (suc h) (phase.Send to)) i.lead.sends
     (omega (arith, opened, bit_and_false c.told.over)) few)))
 
-late_names : (c : Configuration) (h : ℕ) (late : ℕ) → h < c.told.harts → LateFits c.told.harts (suc h) late → names_what_is (act.Enter (record { 0 = h }) late) c.told.harts ≡ true
+late_names : (c : Configuration) (h : ℕ) (late : ℕ) → h < c.told.harts → LateFits c.told.harts (suc h) late → names_are_there (act.Enter (record { 0 = h }) late) c.told.harts ≡ true
 late_names c h late lt f = and_from (nat_lt h c.told.harts) (nat_lt late (2 ^ c.told.harts)) (lt-ltb h c.told.harts lt) (lt-ltb late (2 ^ c.told.harts) f.below)
 
 not_late : (harts h late : ℕ) → LateFits harts (suc h) late → has late h ≡ false
@@ -299,7 +299,7 @@ given_phase c h p place.Give a after held = put_same c.phase h (after_answer c.t
 pub gone_trap_drops : GoneTrapDrops
 unfolding tick
 gone_trap_drops c h next s e m gone t =
-    let acts : Acts (act.Check (record { 0 = h })) c.told t.answer t.after = subst (λ q. Acts (act_of h q) c.told t.answer t.after) e (t.honest m) in
+    let acts : HonestCall (act.Check (record { 0 = h })) c.told t.answer t.after = subst (λ q. HonestCall (act_of h q) c.told t.answer t.after) e (t.honest m) in
     let none : is_some acts.does.0 ≡ false = acts.does.1.1.some ∙ and_right (not c.told.over) (has c.told.traps h) gone in
     ap (λ x. x.phase h) t.ticked
     ∙ (ap (λ q. (tick_in q h t.answer t.after c).phase h) e

@@ -4,14 +4,15 @@ use Rattle.std.proofs.Math.Path.{fun_ext}
 use Rattle.std.proofs.Props.{props}
 use Rattle.std.proofs.Math.Bool.{Bool-set}
 use Rattle.std.proofs.Math.Logic.{∥∥₁_map, ∥∥₁_elim}
-use Rattle.std.proofs.lemmas.Bool.{both_ways, and_left, and_right, and_from, cases_eq, cases_Bool, cond-true, cond-false, not-true, not-false}
+use Rattle.std.proofs.lemmas.Bool.{both_ways, and_parts, and_left, and_right, and_from, cases_eq, cases_Bool, cond-true, cond-false, not-true, not-false}
 use Rattle.deck_core.specs.Phases.{holds}
 use Rattle.deck_core.specs.Told.{Told}
 use Rattle.deck_core.specs.Configuration.{Configuration, put}
-use Rattle.deck_core.specs.Contract.{Acts, Does, Changes, LineLeaves, PassLeaves, is_allowed, sent, pulled, replanted, step_planted, step_pulled}
+use Rattle.deck_core.specs.Contract.{HonestCall, CallLeaves, Changes, LineLeaves, PassLeaves, is_allowed, sent, pulled, replanted, step_planted, step_pulled}
 use Rattle.deck_core.specs.Tick.{tick, tick_in, Ticks, is_transaction, makes_call, act_of, after_answer, peeks, takes, gives, transacts, writes, enters, goes, waits_at, after_gate, tries_master, is_busy, CanGoOn, after_look, mark_counts}
 use Rattle.deck_core.specs.Words.{turn_word, mask_of}
 use Rattle.deck_core.specs.Invariant.{Sound}
+use Rattle.deck_core.specs.Laws.{GiveKeeps}
 use Rattle.deck_core.specs.Seat.{seat_of, WholeTicks, WholeGives, clears, after_clear, sees_gate, is_peek, is_answer_of, looks_in}
 use Rattle.deck_core.specs.declared.phase.Phase.{Phase}
 use Rattle.deck_core.specs.declared.phase.Phase.TheVariants as phase
@@ -169,7 +170,7 @@ give_is (place.Take seen) t = absurd (both_ways false refl t)
 pub give_tick : (c : Configuration) (h : ℕ) (a : Answer) (after : Told) → is_transaction (c.phase h) ≡ true → holds (c.place h) ≡ true → tick h a after c ≡ gives h (after_answer c.told.harts h (c.phase h) a) after c
 give_tick c h a after t e = tick_transacts h place.Give a after c t (give_is (c.place h) e)
 
-pub give_ticks : (c next : Configuration) (h : ℕ) (a : Answer) (after : Told) → is_transaction (c.phase h) ≡ true → holds (c.place h) ≡ true → Acts (act_of h (c.phase h)) c.told a after → next ≡ gives h (after_answer c.told.harts h (c.phase h) a) after c → Ticks h c next
+pub give_ticks : (c next : Configuration) (h : ℕ) (a : Answer) (after : Told) → is_transaction (c.phase h) ≡ true → holds (c.place h) ≡ true → HonestCall (act_of h (c.phase h)) c.told a after → next ≡ gives h (after_answer c.told.harts h (c.phase h) a) after c → Ticks h c next
 give_ticks c next h a after t e acts n = record {
   answer = a;
   after = after;
@@ -201,7 +202,7 @@ pass_harts h b after passed.Faulted g = ap (λ x. x.harts) g.1
 pass_harts h b after passed.Back g = ap (λ x. x.harts) g.1
 pass_harts h b after (passed.Free enabled) g = ap (λ x. x.harts) g.1.1
 
-pub acts_harts : (a : Act) (b after : Told) (r : Answer) → Does a b r after → after.harts ≡ b.harts
+pub acts_harts : (a : Act) (b after : Told) (r : Answer) → CallLeaves a b r after → after.harts ≡ b.harts
 acts_harts (act.HartStep h) b after r g = ap (λ x. x.harts) g.1.1.told
 acts_harts (act.Check h) b after r g = ap (λ x. x.harts) g.1.1.told
 acts_harts (act.Send h) b after r g = changes_harts b after (sent b) g.1 refl
@@ -219,7 +220,7 @@ acts_harts (act.PassStep h) b after r g =
     elim (cases_Bool b.over) [ inl o ↦ ap (λ x. x.harts) (g.1.1.ended o).1 | inr w ↦ pass_harts h.0 b after g.0 (g.1.1.working w) ]
 
 -- the answer is one of the call
-pub acts_answer : (a : Act) (b after : Told) (r : Answer) → Does a b r after → is_answer_of a r ≡ true
+pub acts_answer : (a : Act) (b after : Told) (r : Answer) → CallLeaves a b r after → is_answer_of a r ≡ true
 acts_answer (act.HartStep h) b after r g = ap (is_answer_of (act.HartStep h)) g.1.0
 acts_answer (act.Check h) b after r g = ap (is_answer_of (act.Check h)) g.1.0
 acts_answer (act.Send h) b after r g = ap (is_answer_of (act.Send h)) g.0
@@ -286,5 +287,12 @@ give_seat_idle c next h p after now was idle harts n e =
     give_seat c next h p after now idle harts n ∙ ap (λ i. record (seat_of h idle c) { phase = p; place = place.Peek; idle = i }) e
 
 -- the whole configuration over the call
-pub whole_gives : (c next : Configuration) (h : ℕ) (a : Answer) (after : Told) → is_transaction (c.phase h) ≡ true → holds (c.place h) ≡ true → Acts (act_of h (c.phase h)) c.told a after → next ≡ gives h (after_answer c.told.harts h (c.phase h) a) after c → WholeGives h a (Some c) (Some next)
+pub whole_gives : (c next : Configuration) (h : ℕ) (a : Answer) (after : Told) → is_transaction (c.phase h) ≡ true → holds (c.place h) ≡ true → HonestCall (act_of h (c.phase h)) c.told a after → next ≡ gives h (after_answer c.told.harts h (c.phase h) a) after c → WholeGives h a (Some c) (Some next)
 whole_gives c next h a after t e acts n = (after, (acts, ap Some (n ∙ sym (give_tick c h a after t e))))
+
+-- the call keeps the invariant
+pub give_keeps : GiveKeeps
+give_keeps c h a after s lt m acts =
+    let p = and_parts (is_transaction (c.phase h)) (holds (c.place h)) m in
+    let next : Configuration = gives h (after_answer c.told.harts h (c.phase h) a) after c in
+    every_tick_keeps c h next s lt (give_ticks c next h a after p.0 p.1 acts refl)

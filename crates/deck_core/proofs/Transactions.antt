@@ -5,8 +5,9 @@ use Rattle.deck_core.specs.Words.{has, turn_word, mask_of, holder_of}
 use Rattle.deck_core.specs.Phases.{holds, is_in_session}
 use Rattle.deck_core.specs.Told.{Told}
 use Rattle.deck_core.specs.Configuration.{Configuration, put}
-use Rattle.deck_core.specs.Contract.{Acts}
-use Rattle.deck_core.specs.Tick.{tick, tick_in, peeks, takes, goes, is_busy, transacts, act_of, makes_call, is_transaction, gives, after_answer}
+use Rattle.deck_core.specs.Contract.{HonestCall}
+use Rattle.deck_core.specs.Tick.{tick, tick_in, goes, is_busy, transacts, act_of, makes_call, is_transaction, gives, after_answer}
+use Rattle.deck_core.specs.Laws.{PeekKeeps, TakeKeeps}
 use Rattle.deck_core.specs.Invariant.{Sound, TurnAt, SeenFree}
 use Rattle.deck_core.specs.declared.phase.Phase.{Phase}
 use Rattle.deck_core.specs.declared.phase.Place.{Place}
@@ -36,7 +37,7 @@ place_moves c h at s before next free =
     (record { holder = next ∙ (sym before ∙ (s.turn h).holder); seen = free })
     (λ k ne. s.turn k))
 
-pub peek_keeps : (c : Configuration) (h : ℕ) (p : Phase) → Sound c → c.place h ≡ place.Peek → Sound (peeks h p c)
+pub peek_keeps : PeekKeeps
 peek_keeps c h p s e =
     let f : Bool → Configuration = λ b. if b then c else goes h (place.Take c.turn) c in
     elim (cases_Bool (is_busy h p c.turn)) [
@@ -47,7 +48,7 @@ peek_keeps c h p s e =
           ((or_parts (not (holder_of c.turn == 0)) (has (mask_of c.turn) h && not (is_in_session p)) t).0))))
     ]
 
-pub take_keeps : (c : Configuration) (h seen : ℕ) → Sound c → c.place h ≡ place.Take seen → Sound (takes h seen c)
+pub take_keeps : TakeKeeps
 take_keeps c h seen s e =
     let taken : Configuration = record c { turn = turn_word (mask_of c.turn) (suc h); place = put c.place h place.Give } in
     let f : Bool → Configuration = λ b. if b then taken else goes h place.Peek c in
@@ -81,8 +82,8 @@ transaction_keeps c h p (place.Take seen) a after s e g = take_keeps c h seen s 
 transaction_keeps c h p place.Give a after s e g = g (ap holds e)
 
 -- the same, with the call of a phase that is a transaction
-pub call_keeps : (c : Configuration) (h : ℕ) (p : Phase) (a : Answer) (after : Told) → Sound c → c.phase h ≡ p → is_transaction p ≡ true → (makes_call h c ≡ true → Acts (act_of h (c.phase h)) c.told a after) → (holds (c.place h) ≡ true → Acts (act_of h p) c.told a after → Sound (gives h (after_answer c.told.harts h p a) after c)) → Sound (transacts h p (c.place h) a after c)
+pub call_keeps : (c : Configuration) (h : ℕ) (p : Phase) (a : Answer) (after : Told) → Sound c → c.phase h ≡ p → is_transaction p ≡ true → (makes_call h c ≡ true → HonestCall (act_of h (c.phase h)) c.told a after) → (holds (c.place h) ≡ true → HonestCall (act_of h p) c.told a after → Sound (gives h (after_answer c.told.harts h p a) after c)) → Sound (transacts h p (c.place h) a after c)
 call_keeps c h p a after s e t honest g =
     transaction_keeps c h p (c.place h) a after s refl
-    (λ held. g held (subst (λ q. Acts (act_of h q) c.told a after) e
+    (λ held. g held (subst (λ q. HonestCall (act_of h q) c.told a after) e
     (honest (ap (λ b. b && holds (c.place h)) (ap is_transaction e ∙ t) ∙ held))))

@@ -1,5 +1,6 @@
 -- The contract of a bus: when each call is allowed, and what it does to what the bus tells.
 use Rattle.std.specs.Prelude.{◌≡◌, ℕ, suc, ◌-◌, ◌*◌, ◌^◌, ◌==◌, ◌&&◌, ◌||◌, Bool, true, false, not, nat_lt, Option, Some, None, is_some, is_none, if◌then◌else◌}
+use Rattle.mach_base.specs.declared.event.Ending.{Ending}
 use Rattle.mach_base.specs.declared.event.Reason.{Reason}
 use Rattle.deck_core.specs.Words.{has, mask_with, mask_without, all_but}
 use Rattle.deck_core.specs.Told.{Told, IsTold}
@@ -86,22 +87,22 @@ is_legal (act.Close h) b =
     in_session (λ s. is_of h.0 s && is_leaving s.stage) b.session && (is_none b.step && (b.planted == b.enabled))
 
 -- whether the harts and places that a call names are there
-abbrev pub names_what_is : Act → ℕ → Bool
-names_what_is (act.HartStep h) harts = nat_lt h.0 harts
-names_what_is (act.Check h) harts = nat_lt h.0 harts
-names_what_is (act.Send h) harts = nat_lt h.0 harts
-names_what_is (act.Enter h late) harts = nat_lt h.0 harts && nat_lt late (2 ^ harts)
-names_what_is (act.Pull i) harts = nat_lt i 16
-names_what_is (act.Line h) harts = nat_lt h.0 harts
-names_what_is (act.PlantStep at) harts = true
-names_what_is (act.PassStep h) harts = nat_lt h.0 harts
-names_what_is act.PullStep harts = true
-names_what_is (act.Plant i) harts = nat_lt i 16
-names_what_is (act.Close h) harts = nat_lt h.0 harts
+abbrev pub names_are_there : Act → ℕ → Bool
+names_are_there (act.HartStep h) harts = nat_lt h.0 harts
+names_are_there (act.Check h) harts = nat_lt h.0 harts
+names_are_there (act.Send h) harts = nat_lt h.0 harts
+names_are_there (act.Enter h late) harts = nat_lt h.0 harts && nat_lt late (2 ^ harts)
+names_are_there (act.Pull i) harts = nat_lt i 16
+names_are_there (act.Line h) harts = nat_lt h.0 harts
+names_are_there (act.PlantStep at) harts = true
+names_are_there (act.PassStep h) harts = nat_lt h.0 harts
+names_are_there act.PullStep harts = true
+names_are_there (act.Plant i) harts = nat_lt i 16
+names_are_there (act.Close h) harts = nat_lt h.0 harts
 
 -- whether a call is allowed
 unfoldable pub is_allowed : Act → Told → Bool
-is_allowed a b = names_what_is a b.harts && (b.over || is_legal a b)
+is_allowed a b = names_are_there a b.harts && (b.over || is_legal a b)
 
 -- the session in another stage
 abbrev pub in_stage : Stage → Option Sitting → Option Sitting
@@ -244,20 +245,30 @@ abbrev pub step_pulled : Told → Told
 step_pulled b = record b { step = None }
 
 -- what a call does to what the bus tells, by the call and its answer
-abbrev pub Does : Act → Told → Answer → Told → Type 0
-Does (act.HartStep h) b a after = (r : Turned) × ((a ≡ answer.HartStep r) × HartStepGives h.0 b r after)
-Does (act.Check h) b a after = (r : Option Reason) × ((a ≡ answer.Check r) × CheckGives h.0 b r after)
-Does (act.Send h) b a after = (a ≡ answer.Send) × Changes b after (sent b)
-Does (act.Pull i) b a after = (a ≡ answer.Pull) × Changes b after (pulled i b)
-Does (act.PlantStep at) b a after = (a ≡ answer.PlantStep) × Changes b after (step_planted at b)
-Does act.PullStep b a after = (a ≡ answer.PullStep) × Changes b after (step_pulled b)
-Does (act.Plant i) b a after = (a ≡ answer.Plant) × Changes b after (replanted i b)
-Does (act.Close h) b a after = (a ≡ answer.Close) × CloseGives b after
-Does (act.Enter h late) b a after = (r : Entered) × ((a ≡ answer.Enter r) × EnterGives h.0 late b r after)
-Does (act.Line h) b a after = (r : Lined) × ((a ≡ answer.Line r) × LineGives b r after)
-Does (act.PassStep h) b a after = (r : Passed) × ((a ≡ answer.PassStep r) × PassGives h.0 b r after)
+abbrev pub CallLeaves : Act → Told → Answer → Told → Type 0
+CallLeaves (act.HartStep h) b a after = (r : Turned) × ((a ≡ answer.HartStep r) × HartStepGives h.0 b r after)
+CallLeaves (act.Check h) b a after = (r : Option Reason) × ((a ≡ answer.Check r) × CheckGives h.0 b r after)
+CallLeaves (act.Send h) b a after = (a ≡ answer.Send) × Changes b after (sent b)
+CallLeaves (act.Pull i) b a after = (a ≡ answer.Pull) × Changes b after (pulled i b)
+CallLeaves (act.PlantStep at) b a after = (a ≡ answer.PlantStep) × Changes b after (step_planted at b)
+CallLeaves act.PullStep b a after = (a ≡ answer.PullStep) × Changes b after (step_pulled b)
+CallLeaves (act.Plant i) b a after = (a ≡ answer.Plant) × Changes b after (replanted i b)
+CallLeaves (act.Close h) b a after = (a ≡ answer.Close) × CloseGives b after
+CallLeaves (act.Enter h late) b a after = (r : Entered) × ((a ≡ answer.Enter r) × EnterGives h.0 late b r after)
+CallLeaves (act.Line h) b a after = (r : Lined) × ((a ≡ answer.Line r) × LineGives b r after)
+CallLeaves (act.PassStep h) b a after = (r : Passed) × ((a ≡ answer.PassStep r) × PassGives h.0 b r after)
 
 -- what a call of an honest bus does
-pub record Acts (a : Act) (b : Told) (answer : Answer) (after : Told) : Type 0 where
-  pub does : Does a b answer after
+pub record HonestCall (a : Act) (b : Told) (answer : Answer) (after : Told) : Type 0 where
+  pub does : CallLeaves a b answer after
   pub fits : IsTold after
+
+-- an ending that stands stays, and so does want of memory
+pub record StaysEnded (before after : Option Ending) (lost_before lost_after : Bool) : Type 0 where
+  pub ending : is_some before ≡ true → after ≡ before
+  pub lost : lost_before ≡ true → lost_after ≡ true
+
+-- whether the line met want of memory
+abbrev pub is_lost_line : Lined → Bool
+is_lost_line lined.Lost = true
+is_lost_line _ = false

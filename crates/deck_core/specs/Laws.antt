@@ -4,11 +4,12 @@ use Rattle.deck_core.specs.Words.{has}
 use Rattle.deck_core.specs.Phases.{is_masters}
 use Rattle.deck_core.specs.Told.{Told, IsOpening}
 use Rattle.deck_core.specs.Configuration.{Configuration, opening}
-use Rattle.deck_core.specs.Contract.{Acts, is_allowed}
-use Rattle.deck_core.specs.Tick.{tick, act_of, makes_call, Ticks, TicksAll}
+use Rattle.deck_core.specs.Contract.{HonestCall, is_allowed}
+use Rattle.deck_core.specs.Tick.{tick, act_of, makes_call, Ticks, TicksAll, peeks, takes, gives, after_answer}
 use Rattle.deck_core.specs.Invariant.{Sound}
 use Rattle.deck_core.specs.declared.phase.Phase.{Phase}
 use Rattle.deck_core.specs.declared.phase.Phase.TheVariants as phase
+use Rattle.deck_core.specs.declared.phase.Place.TheVariants as place
 use Rattle.deck_core.specs.declared.phase.Kept.{Kept}
 use Rattle.deck_core.specs.declared.phase.Looks.{Looks}
 use Rattle.deck_core.specs.declared.phase.Then.{Then}
@@ -21,7 +22,7 @@ OpeningIsSound = (limit : ℕ) (b : Told) → 0 < limit → IsOpening b → Soun
 
 -- each tick in this phase, by any of the harts and with any honest bus, keeps the invariant
 abbrev pub KeepsIn : Phase → Type 0
-KeepsIn p = (c : Configuration) (h : ℕ) (a : Answer) (after : Told) → Sound c → h < c.told.harts → c.phase h ≡ p → (makes_call h c ≡ true → Acts (act_of h (c.phase h)) c.told a after) → Sound (tick h a after c)
+KeepsIn p = (c : Configuration) (h : ℕ) (a : Answer) (after : Told) → Sound c → h < c.told.harts → c.phase h ≡ p → (makes_call h c ≡ true → HonestCall (act_of h (c.phase h)) c.told a after) → Sound (tick h a after c)
 
 abbrev pub CalledKeeps : Type 0
 CalledKeeps = KeepsIn phase.Called
@@ -91,6 +92,16 @@ DropKeeps = KeepsIn phase.Drop
 
 abbrev pub FreeKeeps : Type 0
 FreeKeeps = KeepsIn phase.Free
+
+-- the three ticks of a transaction, in any phase: the load of the turn word, its compare and exchange, and the call
+abbrev pub PeekKeeps : Type 0
+PeekKeeps = (c : Configuration) (h : ℕ) (p : Phase) → Sound c → c.place h ≡ place.Peek → Sound (peeks h p c)
+
+abbrev pub TakeKeeps : Type 0
+TakeKeeps = (c : Configuration) (h seen : ℕ) → Sound c → c.place h ≡ place.Take seen → Sound (takes h seen c)
+
+abbrev pub GiveKeeps : Type 0
+GiveKeeps = (c : Configuration) (h : ℕ) (a : Answer) (after : Told) → Sound c → h < c.told.harts → makes_call h c ≡ true → HonestCall (act_of h (c.phase h)) c.told a after → Sound (gives h (after_answer c.told.harts h (c.phase h) a) after c)
 
 -- each tick keeps the invariant, in every phase
 abbrev pub EveryTickKeeps : Type 0

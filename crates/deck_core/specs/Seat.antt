@@ -2,7 +2,7 @@
 use Rattle.std.specs.Prelude.{◌≡◌, ℕ, Bool, true, false, Option, Some, None}
 use Rattle.deck_core.specs.Told.{Told}
 use Rattle.deck_core.specs.Configuration.{Configuration}
-use Rattle.deck_core.specs.Contract.{Acts}
+use Rattle.deck_core.specs.Contract.{HonestCall}
 use Rattle.deck_core.specs.Tick.{tick, Ticks, act_of}
 use Rattle.deck_core.specs.declared.phase.Phase.{Phase}
 use Rattle.deck_core.specs.declared.phase.Phase.TheVariants as phase
@@ -52,7 +52,7 @@ WholeTicks h (Some c) after = (next : Configuration) × ((after ≡ Some next) �
 -- the last tick of a transaction, with this answer of the bus, where the whole configuration is told
 abbrev pub WholeGives : ℕ → Answer → Option Configuration → Option Configuration → Type 0
 WholeGives h a None after = after ≡ None
-WholeGives h a (Some c) after = (b : Told) × (Acts (act_of h (c.phase h)) c.told a b × (after ≡ Some (tick h a b c)))
+WholeGives h a (Some c) after = (b : Told) × (HonestCall (act_of h (c.phase h)) c.told a b × (after ≡ Some (tick h a b c)))
 
 -- whether a call answered Idle
 abbrev pub is_idle : Answer → Bool

@@ -4,7 +4,7 @@ use Rattle.deck_core.specs.Words.{has, mask_with, mask_without, all_but, least, 
 use Rattle.deck_core.specs.Phases.{is_in_session, holds}
 use Rattle.deck_core.specs.Told.{Told}
 use Rattle.deck_core.specs.Configuration.{Configuration, put}
-use Rattle.deck_core.specs.Contract.{Acts}
+use Rattle.deck_core.specs.Contract.{HonestCall}
 use Rattle.deck_core.specs.declared.phase.Phase.{Phase}
 use Rattle.deck_core.specs.declared.phase.Phase.TheVariants as phase
 use Rattle.deck_core.specs.declared.phase.Place.{Place}
@@ -276,7 +276,7 @@ makes_call h c = is_transaction (c.phase h) && holds (c.place h)
 pub record Ticks (h : ℕ) (c : Configuration) (next : Configuration) : Type 0 where
   pub answer : Answer
   pub after : Told
-  pub honest : makes_call h c ≡ true → Acts (act_of h (c.phase h)) c.told answer after
+  pub honest : makes_call h c ≡ true → HonestCall (act_of h (c.phase h)) c.told answer after
   pub ticked : next ≡ tick h answer after c
 
 -- ticks of the harts of a list in order, each one of the bus's harts

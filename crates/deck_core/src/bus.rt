@@ -2,7 +2,7 @@
 ghost use Rattle.std.specs.Prelude.{◌≡◌, ◌||◌, Option, Bool, IsTrue, is_some};
 ghost use Rattle.mach_base.specs.declared.event.Ending.{Ending};
 ghost use Rattle.deck_core.specs.Told.{Told, IsTold, told_of};
-ghost use Rattle.deck_core.specs.Contract.{is_allowed, HartStepGives, CheckGives, EnterGives, LineGives, PassGives, CloseGives, Changes, sent, pulled, replanted, step_planted, step_pulled};
+ghost use Rattle.deck_core.specs.Contract.{is_allowed, HartStepGives, CheckGives, EnterGives, LineGives, PassGives, CloseGives, Changes, sent, pulled, replanted, step_planted, step_pulled, StaysEnded, is_lost_line};
 
 use crate::{Act, Entered, Lined, Notes, Passed, Turned};
 use mach_base::{Ending, Hart, Reason};
@@ -30,6 +30,7 @@ pub trait Bus: Drop {
         requires { IsTrue (is_allowed (Act.HartStep h) (told self.old)) }
         ensures gives { HartStepGives h.0 (told self.old) result (told self.new) }
         ensures fits { IsTold (told self.new) }
+        ensures ended { StaysEnded (ending self.old) (ending self.new) (is_lost self.old) (is_lost self.new) }
         ensures origin { SameOrigin self.old self.new };
 
     /// The trap of the hart on the machine's true memory; None where it has none, or an ending stands.
@@ -37,6 +38,7 @@ pub trait Bus: Drop {
         requires { IsTrue (is_allowed (Act.Check h) (told self.old)) }
         ensures gives { CheckGives h.0 (told self.old) result (told self.new) }
         ensures fits { IsTold (told self.new) }
+        ensures ended { StaysEnded (ending self.old) (ending self.new) (is_lost self.old) (is_lost self.new) }
         ensures origin { SameOrigin self.old self.new };
 
     /// Calls another hart.
@@ -44,6 +46,7 @@ pub trait Bus: Drop {
         requires { IsTrue (is_allowed (Act.Send to) (told self.old)) }
         ensures gives { Changes (told self.old) (told self.new) (sent (told self.old)) }
         ensures fits { IsTold (told self.new) }
+        ensures ended { StaysEnded (ending self.old) (ending self.new) (is_lost self.old) (is_lost self.new) }
         ensures origin { SameOrigin self.old self.new };
 
     /// Takes the planted word of a place, from 0 to 15, out.
@@ -51,6 +54,7 @@ pub trait Bus: Drop {
         requires { IsTrue (is_allowed (Act.Pull i) (told self.old)) }
         ensures gives { Changes (told self.old) (told self.new) (pulled i (told self.old)) }
         ensures fits { IsTold (told self.new) }
+        ensures ended { StaysEnded (ending self.old) (ending self.new) (is_lost self.old) (is_lost self.new) }
         ensures origin { SameOrigin self.old self.new };
 
     /// Plants the step word at an address.
@@ -58,6 +62,7 @@ pub trait Bus: Drop {
         requires { IsTrue (is_allowed (Act.PlantStep at) (told self.old)) }
         ensures gives { Changes (told self.old) (told self.new) (step_planted at (told self.old)) }
         ensures fits { IsTold (told self.new) }
+        ensures ended { StaysEnded (ending self.old) (ending self.new) (is_lost self.old) (is_lost self.new) }
         ensures origin { SameOrigin self.old self.new };
 
     /// Takes the step word out.
@@ -65,6 +70,7 @@ pub trait Bus: Drop {
         requires { IsTrue (is_allowed Act.PullStep (told self.old)) }
         ensures gives { Changes (told self.old) (told self.new) (step_pulled (told self.old)) }
         ensures fits { IsTold (told self.new) }
+        ensures ended { StaysEnded (ending self.old) (ending self.new) (is_lost self.old) (is_lost self.new) }
         ensures origin { SameOrigin self.old self.new };
 
     /// Plants the word of a place, from 0 to 15, again.
@@ -72,6 +78,7 @@ pub trait Bus: Drop {
         requires { IsTrue (is_allowed (Act.Plant i) (told self.old)) }
         ensures gives { Changes (told self.old) (told self.new) (replanted i (told self.old)) }
         ensures fits { IsTold (told self.new) }
+        ensures ended { StaysEnded (ending self.old) (ending self.new) (is_lost self.old) (is_lost self.new) }
         ensures origin { SameOrigin self.old self.new };
 
     /// Closes the hart's session.
@@ -79,6 +86,7 @@ pub trait Bus: Drop {
         requires { IsTrue (is_allowed (Act.Close h) (told self.old)) }
         ensures gives { CloseGives (told self.old) (told self.new) }
         ensures fits { IsTold (told self.new) }
+        ensures ended { StaysEnded (ending self.old) (ending self.new) (is_lost self.old) (is_lost self.new) }
         ensures origin { SameOrigin self.old self.new };
 
     /// Opens a session of the hart with these late harts, a mask; or again, after a single-step pass.
@@ -86,13 +94,16 @@ pub trait Bus: Drop {
         requires { IsTrue (is_allowed (Act.Enter h late) (told self.old)) }
         ensures gives { EnterGives h.0 late (told self.old) result (told self.new) }
         ensures fits { IsTold (told self.new) }
+        ensures ended { StaysEnded (ending self.old) (ending self.new) (is_lost self.old) (is_lost self.new) }
         ensures origin { SameOrigin self.old self.new };
 
     /// Runs the next script line in the hart's session.
     fn line(&mut self, h: Hart) -> Lined
         requires { IsTrue (is_allowed (Act.Line h) (told self.old)) }
         ensures gives { LineGives (told self.old) result (told self.new) }
+        ensures lost { is_lost self.new ≡ (is_lost self.old || is_lost_line result) }
         ensures fits { IsTold (told self.new) }
+        ensures ended { StaysEnded (ending self.old) (ending self.new) (is_lost self.old) (is_lost self.new) }
         ensures origin { SameOrigin self.old self.new };
 
     /// Executes the one instruction of the hart's single-step pass.
@@ -100,6 +111,7 @@ pub trait Bus: Drop {
         requires { IsTrue (is_allowed (Act.PassStep h) (told self.old)) }
         ensures gives { PassGives h.0 (told self.old) result (told self.new) }
         ensures fits { IsTold (told self.new) }
+        ensures ended { StaysEnded (ending self.old) (ending self.new) (is_lost self.old) (is_lost self.new) }
         ensures origin { SameOrigin self.old self.new };
 
     /// The number of harts, from 1 to 32.

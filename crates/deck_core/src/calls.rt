@@ -1,6 +1,6 @@
 //! A call of a bus by its name and arguments.
 ghost use Rattle.std.specs.Prelude.{◌≡◌, IsTrue};
-ghost use Rattle.deck_core.specs.Contract.{is_allowed, Acts};
+ghost use Rattle.deck_core.specs.Contract.{is_allowed, HonestCall, StaysEnded};
 ghost use Rattle.deck_core.specs.Seat.{is_idle};
 
 use crate::{Act, Answer, Bus, Turned};
@@ -8,7 +8,8 @@ use crate::{Act, Answer, Bus, Turned};
 /// Makes the call on the bus, under the call's own condition.
 pub fn call<B: Bus>(bus: &mut B, act: Act) -> Answer
     requires { IsTrue (is_allowed act (B.told bus.old)) }
-    ensures acts { Acts act (B.told bus.old) result (B.told bus.new) }
+    ensures acts { HonestCall act (B.told bus.old) result (B.told bus.new) }
+    ensures ended { StaysEnded (B.ending bus.old) (B.ending bus.new) (B.is_lost bus.old) (B.is_lost bus.new) }
     ensures origin { B.SameOrigin bus.old bus.new }
 {
     match act {

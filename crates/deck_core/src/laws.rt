@@ -1,6 +1,6 @@
 //! The laws of the protocol over whole configurations: each tick keeps the invariant, phase by phase. A layer above calls
 //! the one of its step, or cites the statement of `specs/Laws.antt`. None of these functions does anything.
-ghost use Rattle.deck_core.specs.Laws.{RunKeeps, CalledKeeps, MarkKeeps, ParkedKeeps, UnmarkKeeps, WishKeeps, WantKeeps, OwnKeeps, ShutKeeps, SendKeeps, GatherKeeps, EnterKeeps, PullKeeps, LinesKeeps, PlantStepKeeps, PassStepKeeps, PullStepKeeps, PlantKeeps, CloseKeeps, OpenGateKeeps, DropKeeps, FreeKeeps, FinishedKeeps, EveryTickKeeps, EveryPlanKeeps};
+ghost use Rattle.deck_core.specs.Laws.{PeekKeeps, TakeKeeps, GiveKeeps, RunKeeps, CalledKeeps, MarkKeeps, ParkedKeeps, UnmarkKeeps, WishKeeps, WantKeeps, OwnKeeps, ShutKeeps, SendKeeps, GatherKeeps, EnterKeeps, PullKeeps, LinesKeeps, PlantStepKeeps, PassStepKeeps, PullStepKeeps, PlantKeeps, CloseKeeps, OpenGateKeeps, DropKeeps, FreeKeeps, FinishedKeeps, EveryTickKeeps, EveryPlanKeeps};
 
 /// A hart's step outside a session, by any hart and with any honest bus, keeps the invariant.
 #[tactic(auto, using(crate::proofs::Runs::run_keeps))]
@@ -136,4 +136,19 @@ pub fn every_tick_keeps()
 #[tactic(auto, using(crate::proofs::Ticks::every_plan_keeps))]
 pub fn every_plan_keeps()
     ensures { EveryPlanKeeps }
+{}
+
+/// The load of the turn word keeps it, in any phase.
+pub fn peek_keeps()
+    ensures { PeekKeeps }
+{}
+
+/// The compare and exchange of the turn word keeps it, in any phase.
+pub fn take_keeps()
+    ensures { TakeKeeps }
+{}
+
+/// The call of a phase keeps it, and the giving back of the turn with it.
+pub fn give_keeps()
+    ensures { GiveKeeps }
 {}

@@ -52,9 +52,10 @@ pub use facts::{
 pub use flat::Flat;
 pub use laws::{
     called_keeps, close_keeps, drop_keeps, enter_keeps, every_plan_keeps, every_tick_keeps,
-    finished_keeps, free_keeps, gather_keeps, lines_keeps, mark_keeps, open_gate_keeps, own_keeps,
-    parked_keeps, pass_step_keeps, plant_keeps, plant_step_keeps, pull_keeps, pull_step_keeps,
-    run_keeps, send_keeps, shut_keeps, unmark_keeps, want_keeps, wish_keeps,
+    finished_keeps, free_keeps, gather_keeps, give_keeps, lines_keeps, mark_keeps, open_gate_keeps,
+    own_keeps, parked_keeps, pass_step_keeps, peek_keeps, plant_keeps, plant_step_keeps,
+    pull_keeps, pull_step_keeps, run_keeps, send_keeps, shut_keeps, take_keeps, unmark_keeps,
+    want_keeps, wish_keeps,
 };
 pub use next_phase::{
     act_of, after_answer, after_clear, after_gate, after_look, after_shut, is_transaction,

@@ -2,7 +2,7 @@ use Rattle.std.proofs.Common.{◌≡◌, ℕ, ◌<◌, ◌≤◌, sym, subst}
 use Rattle.std.specs.Prelude.{IsTrue}
 use Rattle.deck_core.specs.Told.{Told}
 use Rattle.deck_core.specs.Configuration.{Configuration}
-use Rattle.deck_core.specs.Contract.{Acts, is_allowed}
+use Rattle.deck_core.specs.Contract.{HonestCall, is_allowed}
 use Rattle.deck_core.specs.Seats.{configuration_of}
 use Rattle.deck_core.specs.Seat.{is_idle}
 use Rattle.deck_core.specs.Tick.{act_of, after_answer, gives, CanGoOn}
@@ -36,7 +36,7 @@ invariant_of-self g c =
     let old : Configuration = configuration_of s.limit s.seats b in
     let next : Configuration = configuration_of s.limit c.gives.new.seats b2 in
     let p : Phase = after_answer b.harts h (old.phase h) a in
-    let acts : Acts (act_of h (old.phase h)) b a b2 = subst (λ x. Acts x b a b2) c.requires.own_call c.call-answer.ensures.acts in
+    let acts : HonestCall (act_of h (old.phase h)) b a b2 = subst (λ x. HonestCall x b a b2) c.requires.own_call c.call-answer.ensures.acts in
     let harts : b2.harts ≡ b.harts = acts_harts (act_of h (old.phase h)) b b2 a acts.does in
     let leads : c.after_answer-next.result ≡ p =
     answered b.harts c.harts-harts.result h (old.phase h) c.phase_of-phase.result c.after_answer-next.result a c.after_answer-next.ensures c.harts-harts.ensures c.phase_of-phase.ensures in
@@ -61,7 +61,7 @@ returns-clause-seat g c =
     let old : Configuration = configuration_of s.limit s.seats b in
     let next : Configuration = configuration_of s.limit c.gives.new.seats b2 in
     let p : Phase = after_answer b.harts h (old.phase h) a in
-    let acts : Acts (act_of h (old.phase h)) b a b2 = subst (λ x. Acts x b a b2) c.requires.own_call c.call-answer.ensures.acts in
+    let acts : HonestCall (act_of h (old.phase h)) b a b2 = subst (λ x. HonestCall x b a b2) c.requires.own_call c.call-answer.ensures.acts in
     let harts : b2.harts ≡ b.harts = acts_harts (act_of h (old.phase h)) b b2 a acts.does in
     let leads : c.after_answer-next.result ≡ p =
     answered b.harts c.harts-harts.result h (old.phase h) c.phase_of-phase.result c.after_answer-next.result a c.after_answer-next.ensures c.harts-harts.ensures c.phase_of-phase.ensures in
@@ -78,7 +78,7 @@ returns-clause-ticks g c =
     let old : Configuration = configuration_of s.limit s.seats b in
     let next : Configuration = configuration_of s.limit c.gives.new.seats b2 in
     let p : Phase = after_answer b.harts h (old.phase h) a in
-    let acts : Acts (act_of h (old.phase h)) b a b2 = subst (λ x. Acts x b a b2) c.requires.own_call c.call-answer.ensures.acts in
+    let acts : HonestCall (act_of h (old.phase h)) b a b2 = subst (λ x. HonestCall x b a b2) c.requires.own_call c.call-answer.ensures.acts in
     let harts : b2.harts ≡ b.harts = acts_harts (act_of h (old.phase h)) b b2 a acts.does in
     let leads : c.after_answer-next.result ≡ p =
     answered b.harts c.harts-harts.result h (old.phase h) c.phase_of-phase.result c.after_answer-next.result a c.after_answer-next.ensures c.harts-harts.ensures c.phase_of-phase.ensures in

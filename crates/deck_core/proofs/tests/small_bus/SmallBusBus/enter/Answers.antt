@@ -1,8 +1,8 @@
-use Rattle.std.proofs.Common.{◌≡◌, ℕ, ◌<◌, ◌≤◌, ◌^◌, ◌+◌, ◌-◌, ◌*◌, ◌||◌, suc, Bool, true, false, not, is_none, nat_lt, sym, ◌∙◌, ap, subst, arith}
+use Rattle.std.proofs.Common.{◌<◌, ◌^◌, nat_lt, sym, ◌∙◌, ap, subst}
 use Rattle.std.proofs.lemmas.Bool.{ltb-true, and_parts}
 use Rattle.deck_core.specs.declared.act.Act.TheVariants as act
-use Rattle.deck_core.proofs.Allowed.{allowed_names, allowed_legal}
-use Rattle.deck_core.proofs.Masks.{with-lt, without-lt, all_but-lt}
+use Rattle.deck_core.proofs.Allowed.{allowed_names}
+use Rattle.deck_core.proofs.Masks.{all_but-lt}
 use Rattle.deck_core.proofs.tests.small_bus.SmallBusBus.enter.Goals as goal
 use Rattle.deck_core.proofs.tests.small_bus.SmallBusBus.enter.Goals.{then-is_none, else-is_none}
 

@@ -1,7 +1,7 @@
-use Rattle.std.proofs.Common.{◌≡◌, ℕ, ◌<◌, ◌^◌, ◌+◌, arith}
-use Rattle.std.proofs.lemmas.Bool.{ltb-true, and_parts}
+use Rattle.std.proofs.Common.{arith}
+use Rattle.std.proofs.lemmas.Bool.{ltb-true}
 use Rattle.deck_core.specs.declared.act.Act.TheVariants as act
-use Rattle.deck_core.proofs.Allowed.{allowed_names, allowed_legal}
+use Rattle.deck_core.proofs.Allowed.{allowed_names}
 use Rattle.deck_core.proofs.tests.small_bus.SmallBusBus.hart_step.Goals as goal
 
 pub mask_has-requires : goal.mask_has-requires

@@ -1,8 +1,7 @@
-use Rattle.std.proofs.Common.{◌≡◌, ℕ, ◌<◌, ◌≤◌, ◌^◌, ◌+◌, ◌-◌, ◌*◌, ◌||◌, suc, Bool, true, false, not, is_none, nat_lt, sym, ◌∙◌, ap, subst, arith}
+use Rattle.std.proofs.Common.{◌<◌, ◌-◌, ◌*◌, ◌||◌, suc, false, not, is_none, nat_lt, ◌∙◌, ap, arith}
 use Rattle.std.proofs.lemmas.Bool.{ltb-true, and_parts}
 use Rattle.deck_core.specs.declared.act.Act.TheVariants as act
-use Rattle.deck_core.proofs.Allowed.{allowed_names, allowed_legal}
-use Rattle.deck_core.proofs.Masks.{with-lt, without-lt, all_but-lt}
+use Rattle.deck_core.proofs.Allowed.{allowed_legal}
 use Rattle.deck_core.proofs.tests.small_bus.SmallBusBus.send.Goals as goal
 
 pub overflow_add-self : goal.overflow_add-self
