@@ -15,3 +15,4 @@ pub mod Bits
 pub mod SeatSteps
 pub mod Flats
 pub mod Allowed
+pub mod Programs

@@ -5,7 +5,7 @@ use Rattle.deck_core.specs.Phases.{is_masters}
 use Rattle.deck_core.specs.Told.{Told, IsOpening}
 use Rattle.deck_core.specs.Configuration.{Configuration, opening}
 use Rattle.deck_core.specs.Contract.{HonestCall, is_allowed}
-use Rattle.deck_core.specs.Tick.{tick, act_of, makes_call, Ticks, TicksAll, peeks, takes, gives, after_answer}
+use Rattle.deck_core.specs.Tick.{tick, act_of, makes_call, Ticks, TicksAll, peeks, takes, gives, after_answer, after_look, after_shut, after_gate, CanGoOn, GoesOn}
 use Rattle.deck_core.specs.Invariant.{Sound}
 use Rattle.deck_core.specs.declared.phase.Phase.{Phase}
 use Rattle.deck_core.specs.declared.phase.Phase.TheVariants as phase
@@ -134,3 +134,22 @@ GoneTrapDrops = (c : Configuration) (h : ℕ) (next : Configuration) → Sound c
 -- the gate's number is at most 8,196
 abbrev pub GateIsBounded : Type 0
 GateIsBounded = (c : Configuration) → Sound c → c.gate ≤ 8196
+
+-- ---- for the program of a hart, which sees phases and answers alone
+
+-- what a phase keeps stays in range
+abbrev pub AnswersGoOn : Type 0
+AnswersGoOn = (limit harts h : ℕ) (p : Phase) (a : Answer) → 0 < limit → h < harts → GoesOn limit harts h p → GoesOn limit harts h (after_answer harts h p a)
+
+abbrev pub LooksGoOn : Type 0
+LooksGoOn = (limit harts h : ℕ) (looks : Looks) (counts : Bool) → looks.next < harts → looks.rounds < limit → GoesOn limit harts h (after_look limit harts h looks counts)
+
+abbrev pub ShutGoesOn : Type 0
+ShutGoesOn = (limit harts h : ℕ) → GoesOn limit harts h (after_shut harts h)
+
+abbrev pub GateGoesOn : Type 0
+GateGoesOn = (limit harts h gate : ℕ) (p : Phase) → GoesOn limit harts h p → GoesOn limit harts h (after_gate p gate)
+
+-- and is what the next phase asks for
+abbrev pub CanGoOnNow : Type 0
+CanGoOnNow = (limit harts h : ℕ) (p : Phase) → GoesOn limit harts h p → CanGoOn harts p

@@ -298,3 +298,12 @@ abbrev pub after_gate : Phase → ℕ → Phase
 after_gate phase.Called gate = if gate % 2 == 0 then phase.Run else phase.Mark gate
 after_gate (phase.Parked at) gate = if gate == at then phase.Parked at else phase.Unmark at
 after_gate p gate = p
+
+-- what the phase of hart h keeps is in range for each tick after it, whatever the bus answers: it calls and looks at
+-- another one of the harts, rounds of looks are left, and places are left to be pulled or planted
+abbrev pub GoesOn : ℕ → ℕ → ℕ → Phase → Type 0
+GoesOn limit harts h (phase.Send to) = (to < harts) × ((to ≡ h) → ⊥)
+GoesOn limit harts h (phase.Gather looks) = (looks.next < harts) × (looks.rounds < limit)
+GoesOn limit harts h (phase.Pull kept left) = 0 < left
+GoesOn limit harts h (phase.Plant kept left) = 0 < left
+GoesOn limit harts h _ = Unit {0}

@@ -1,5 +1,5 @@
 //! What follows from the invariant. None of these functions does anything.
-ghost use Rattle.deck_core.specs.Laws.{OpeningIsSound, CallIsAllowed, OneMaster, RunsUnmasked, SessionsNeverOverlap, GoneTrapDrops, GateIsBounded};
+ghost use Rattle.deck_core.specs.Laws.{AnswersGoOn, LooksGoOn, ShutGoesOn, GateGoesOn, CanGoOnNow, OpeningIsSound, CallIsAllowed, OneMaster, RunsUnmasked, SessionsNeverOverlap, GoneTrapDrops, GateIsBounded};
 
 /// The opening configuration, over an opening bus, meets the invariant.
 #[tactic(auto, using(crate::proofs::Opening::opening_is_sound))]
@@ -40,4 +40,29 @@ pub fn gone_trap_drops()
 #[tactic(auto, using(crate::proofs::Conditions::gate_is_bounded))]
 pub fn gate_is_bounded()
     ensures { GateIsBounded }
+{}
+
+/// What a phase keeps stays in range over the call of a phase, whatever the bus answers.
+pub fn answers_go_on()
+    ensures { AnswersGoOn }
+{}
+
+/// It stays in range over a look.
+pub fn looks_go_on()
+    ensures { LooksGoOn }
+{}
+
+/// It is in range after the shutting of the gate.
+pub fn shut_goes_on()
+    ensures { ShutGoesOn }
+{}
+
+/// It stays in range over a load of the gate's number.
+pub fn gate_goes_on()
+    ensures { GateGoesOn }
+{}
+
+/// What is in range is what `after_answer` asks for.
+pub fn can_go_on_now()
+    ensures { CanGoOnNow }
 {}

@@ -46,8 +46,8 @@ pub use bus::Bus;
 pub use calls::call;
 pub use deck::Deck;
 pub use facts::{
-    call_is_allowed, gate_is_bounded, gone_trap_drops, one_master, opening_is_sound, runs_unmasked,
-    sessions_never_overlap,
+    answers_go_on, call_is_allowed, can_go_on_now, gate_goes_on, gate_is_bounded, gone_trap_drops,
+    looks_go_on, one_master, opening_is_sound, runs_unmasked, sessions_never_overlap, shut_goes_on,
 };
 pub use flat::Flat;
 pub use laws::{
