@@ -18,7 +18,7 @@
 //! exactly the ticks of the selected hart. Nothing is claimed of progress: that a gathering finds every hart, or that a
 //! hart ever gets the turn.
 //!
-//! It stands on `mach_base`. The program of a hart, the board of shared words and the machine's core stand on it.
+//! It stands on `mach_base`. No crate stands on it yet.
 #![tactic(auto)]
 
 mod act;

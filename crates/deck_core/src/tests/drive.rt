@@ -243,7 +243,7 @@ fn a_hart_that_does_not_answer_is_late(rt: HostRuntime) -> Result<(), Fail> {
 }
 
 #[test]
-fn an_old_mark_does_not_count(rt: HostRuntime) -> Result<(), Fail> {
+fn a_hart_that_has_not_marked_itself_does_not_count(rt: HostRuntime) -> Result<(), Fail> {
     let mut deck = Flat::new(rt.alloc(), small_bus(), 2)?;
     called(&mut deck);
     run(&mut deck, OTHER, 3 + 1);
