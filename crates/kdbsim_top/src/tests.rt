@@ -39,7 +39,11 @@ fn words(alloc: Global, line: &str) -> Result<Vec<String>, AllocError> {
 }
 
 /// The answer to `uni i s`, and what was printed.
-pub(crate) fn answer(alloc: Global, image: &str, script: &[u8]) -> Result<(Status, Text), AllocError> {
+pub(crate) fn answer(
+    alloc: Global,
+    image: &str,
+    script: &[u8],
+) -> Result<(Status, Text), AllocError> {
     let mut shelf = SureShelf::new(alloc, files(alloc, image, script)?);
     let mut sink = SureSink::new(alloc);
     let words = words(alloc, "uni i s")?;
