@@ -220,6 +220,17 @@ fn lines_print_and_change(rt: HostRuntime) -> Result<(), Fail> {
             ],
         ),
         (
+            RESERVED,
+            "go\ngo\nrd | grep a2\n",
+            Ending::ScriptEnd,
+            [
+                START,
+                "[0]kdb> go\nEntering kdb on processor 0 due to Compiled breakpoint @ 0x0000000000001008\n[0]kdb> go\n",
+                "Entering kdb on processor 0 due to Compiled breakpoint @ 0x0000000000001010\n[0]kdb> rd | grep a2\n",
+                "  a2: 0000000000000000    a3: 0000000000000000    a4: 0000000000000000    a5: 0000000000000000\n[0]kdb> \nkdbsim: script end after 4 steps\n",
+            ],
+        ),
+        (
             DATA,
             "env\ngo 1002\n",
             Ending::ScriptEnd,
@@ -251,27 +262,6 @@ fn lines_print_and_change(rt: HostRuntime) -> Result<(), Fail> {
         assert_eq!(rt; printed.as_bytes(), want.as_slice());
     }
     Ok(())
-}
-
-/// A load-reserved and a store-conditional with nothing between but sessions.
-#[test]
-fn a_session_keeps_reservations(rt: HostRuntime) -> Result<(), Fail> {
-    let image =
-        "kimg 1\ntext 0x1000 24\nw 0x000025b7 0x1005b52f 0x00100073 0x18a5b62f 0x00100073 0x00000073\ndata 0x2000 8\n";
-    let (status, printed) = answer(rt.alloc(), image, b"go\ngo\nrd\n")?;
-    assert_eq!(rt; status, Status::Done(Ending::ScriptEnd));
-    assert!(rt;
-        has_text(
-            printed.as_bytes(),
-            b"    a1: 0000000000002000\n  a2: 0000000000000000    a3:"
-        )
-    );
-    Ok(())
-}
-
-/// Whether the text has the part.
-fn has_text(text: &[u8], part: &[u8]) -> bool {
-    text.windows(part.len()).any(|window| window == part)
 }
 
 #[test]
