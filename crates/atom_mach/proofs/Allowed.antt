@@ -1,90 +1,130 @@
--- Steps that a machine with one hart can't make, and its sessions.
-use Rattle.std.proofs.Common.{◌≡◌, ℕ, zero, suc, ◌^◌, ◌==◌, ◌&&◌, ◌||◌, Bool, true, false, not, cond, IsTrue, List, length, Option, Some, None, nat_lt, refl, ap, ◌∙◌, arith}
+-- Which steps are allowed, step by step.
+use Rattle.std.proofs.Common.{◌≡◌, ◌≢◌, ℕ, zero, suc, ◌+◌, ◌^◌, ◌<◌, ◌==◌, ◌&&◌, ◌||◌, Bool, true, false, not, cond, IsTrue, List, [], ◌∷◌, ◌++◌, length, Option, Some, None, nat_lt, refl, sym, ap, ◌∙◌, arith, rules}
 use Rattle.std.proofs.lemmas.Bool.{false≢true}
 use Rattle.std.proofs.lemmas.Bool.Decides.{nat_tests}
 use Rattle.mach_base.specs.Machine.{Machine}
 use Rattle.mach_base.specs.declared.event.Hart.{Hart}
 use Rattle.mach_base.specs.declared.event.Reason.{Reason}
+use Rattle.mach_base.specs.declared.event.Ending.TheVariants.{ScriptEnd}
+use Rattle.mach_base.specs.Texts.{newline, has_bit}
 use Rattle.atom_mach.specs.declared.step.Mode.{Mode}
 use Rattle.atom_mach.specs.declared.step.Mode.TheVariants.{Free, Hold, Pass, Back, Leave, Over}
-use Rattle.atom_mach.specs.declared.step.AStep.TheVariants.{Instr, Intr, Session, Enter, Line, End}
-use Rattle.atom_mach.specs.State.{State}
-use Rattle.mach_base.specs.Texts.{has_bit}
-use Rattle.atom_mach.specs.Step.{Done, does, is_hart, may_run, may_pass, may_take, opening, opened_for, session, held_line, closed}
-use Rattle.atom_mach.specs.Modes.{is_alone}
+use Rattle.atom_mach.specs.declared.step.AStep.TheVariants.{Instr, Intr, Session, Enter, Line, End, Off}
+use Rattle.atom_mach.specs.State.{State, context_at}
+use Rattle.atom_mach.specs.Step.{Done, does, is_hart, may_run, may_pass, may_take, opening, opened_for, held_for, session, held_line, closed, holds_at_end, prompt_text}
+use Rattle.atom_mach.specs.Modes.{Fits, IsSitting, IsGathered, ReadsWith, is_alone}
 use Rattle.atom_mach.proofs.Steps.{cond_true, cond_false, and_false}
-
-not_hart : (n h : ℕ) → n ≡ 1 → (h == 0) ≡ false → nat_lt h n ≡ false
-not_hart n h e f = rw e (grind (arith, nat_tests))
 
 and_first : (a b : Bool) → a ≡ false → (a && b) ≡ false
 and_first a b e = rw e refl
 
--- no other hart executes
-pub does-Instr-other : (s : State) (h : Hart) → length s.machine.harts ≡ 1 → (h.0 == 0) ≡ false → does s (Instr h) ≡ None
-unfolding does
-does-Instr-other s h one e = cond_false (is_hart s.machine h.0 && (may_run s h.0 || may_pass s h.0)) _ _ (and_first _ _ (not_hart (length s.machine.harts) h.0 one e))
+either_none : (b : Bool) → ◌≡◌ {A = Option Done} (cond b None None) None
+either_none true = refl
+either_none false = refl
 
--- no other hart is interrupted
-pub does-Intr-other : (s : State) (h : Hart) → length s.machine.harts ≡ 1 → (h.0 == 0) ≡ false → does s (Intr h) ≡ None
+-- a hart that isn't there does nothing
+pub does-Instr-no_hart : (s : State) (h : Hart) → is_hart s.machine h.0 ≡ false → does s (Instr h) ≡ None
 unfolding does
-does-Intr-other s h one e = cond_false (is_hart s.machine h.0 && may_take s h.0) _ _ (and_first _ _ (not_hart (length s.machine.harts) h.0 one e))
+does-Instr-no_hart s h e = cond_false (is_hart s.machine h.0 && (may_run s h.0 || may_pass s h.0)) _ _ (and_first _ _ e)
 
--- no other hart opens a session
-pub does-Session-other : (s : State) (h : Hart) → length s.machine.harts ≡ 1 → (h.0 == 0) ≡ false → does s (Session h) ≡ None
+pub does-Session-no_hart : (s : State) (h : Hart) → is_hart s.machine h.0 ≡ false → does s (Session h) ≡ None
 unfolding does
-does-Session-other s h one e = cond_false (is_hart s.machine h.0) _ _ (not_hart (length s.machine.harts) h.0 one e)
+does-Session-no_hart s h e = cond_false (is_hart s.machine h.0) _ _ e
 
 -- without a reason no session opens
 pub does-Session-none : (s : State) (h : Hart) → opening s.mode s.machine h.0 0 ≡ None → does s (Session h) ≡ None
 unfolding does
-does-Session-none s h e = rw e (same (is_hart s.machine h.0))
-  where
-    same : (b : Bool) → ◌≡◌ {A = Option Done} (cond b None None) None
-    same true = refl
-    same false = refl
+does-Session-none s h e = rw e (either_none (is_hart s.machine h.0))
 
 -- with a reason it opens
-pub does-Session : (s : State) (h : Hart) (reason : Reason) → nat_lt h.0 (length s.machine.harts) ≡ true → opening s.mode s.machine h.0 0 ≡ Some reason → does s (Session h) ≡ Some (session s.machine h reason)
+pub does-Session : (s : State) (h : Hart) (reason : Reason) → is_hart s.machine h.0 ≡ true → opening s.mode s.machine h.0 0 ≡ Some reason → does s (Session h) ≡ Some (session s.machine h reason)
 unfolding does
 does-Session s h reason e f = cond_true (is_hart s.machine h.0) _ _ e ∙ ap (opened_for s h) f
 
-late_of_one : (n m late : ℕ) → n ≡ 1 → (nat_lt m n && (not (late == 0) && (nat_lt late (2 ^ n) && not (has_bit late m)))) ≡ false
-late_of_one n (suc m) late e = and_first _ _ (not_hart n (suc m) e (grind (arith, nat_tests)))
-late_of_one n zero zero e = and_false (nat_lt zero n)
-late_of_one n zero (suc zero) e = rw e refl
-late_of_one n zero (suc (suc late)) e = rw e (and_last (nat_lt 0 1) (not (suc (suc late) == 0)) _ (grind (arith, nat_tests)))
-  where
-    and_last : (a b c : Bool) → c ≡ false → (a && (b && c)) ≡ false
-    and_last a b c p = rw p (ap (λ x. a && x) (and_false b) ∙ and_false a)
+-- whether these harts can be late in a session of this master
+abbrev pub can_be_late : State → Hart → ℕ → Bool
+can_be_late s m late = is_hart s.machine m.0 && (not (late == 0) && (nat_lt late (2 ^ length s.machine.harts) && not (has_bit late m.0)))
 
--- with one hart nobody can be late
-pub does-Enter-one : (s : State) (m : Hart) (late : ℕ) → length s.machine.harts ≡ 1 → does s (Enter m late) ≡ None
+pub does-Enter-not : (s : State) (m : Hart) (late : ℕ) → can_be_late s m late ≡ false → does s (Enter m late) ≡ None
 unfolding does
-does-Enter-one s m late one = cond_false (is_hart s.machine m.0 && (not (late == 0) && (nat_lt late (2 ^ length s.machine.harts) && not (has_bit late m.0)))) _ _ (late_of_one (length s.machine.harts) m.0 late one)
+does-Enter-not s m late e = cond_false (can_be_late s m late) _ _ e
 
-held_alone : (mode : Mode) (unread : List (List ℕ)) (s : Machine) → IsTrue (is_alone mode) → held_line mode unread s ≡ None
-held_alone Free unread s h = refl
-held_alone (Hold m late) unread s h = absurd (false≢true h)
-held_alone (Pass m late again) unread s h = refl
-held_alone (Back m late) unread s h = refl
-held_alone (Leave m late) unread s h = refl
-held_alone (Over ending) unread s h = refl
-
--- with nobody late no line is a step
-pub does-Line-alone : (s : State) → IsTrue (is_alone s.mode) → does s Line ≡ None
+pub does-Enter-none : (s : State) (m : Hart) (late : ℕ) → opening s.mode s.machine m.0 late ≡ None → does s (Enter m late) ≡ None
 unfolding does
-does-Line-alone s h = held_alone s.mode s.machine.unread s.machine h
+does-Enter-none s m late e = rw e (either_none (can_be_late s m late))
 
-closed_alone : (mode : Mode) (s : Machine) → IsTrue (is_alone mode) → closed mode s ≡ None
-closed_alone Free s h = refl
-closed_alone (Hold m late) s h = refl
-closed_alone (Pass m late again) s h = refl
-closed_alone (Back m late) s h = refl
-closed_alone (Leave m late) s h = absurd (false≢true h)
-closed_alone (Over ending) s h = refl
-
--- nor is a closing
-pub does-End-alone : (s : State) → IsTrue (is_alone s.mode) → does s End ≡ None
+pub does-Enter : (s : State) (m : Hart) (late : ℕ) (reason : Reason) → can_be_late s m late ≡ true → opening s.mode s.machine m.0 late ≡ Some reason → does s (Enter m late) ≡ held_for s m late (Some reason)
 unfolding does
-does-End-alone s h = closed_alone s.mode s.machine h
+does-Enter s m late reason e f = cond_true (can_be_late s m late) _ _ e ∙ ap (held_for s m late) f
+
+-- late harts that can be late are a sitting's
+pub can_be_late-sitting : (s : State) (m : Hart) (late : ℕ) → can_be_late s m late ≡ true → IsSitting (length s.machine.harts) m late × (late ≢ 0)
+can_be_late-sitting s m late e = search rules
+
+-- no session opens beside one with late harts
+pub opening_free : (mode : Mode) (s : Machine) (m late : ℕ) (reason : Reason) (current : ℕ) → opening mode s m late ≡ Some reason → IsGathered mode current
+opening_free Free s m late reason current e = tt
+opening_free (Hold k was) s m late reason current e = absurd (cc)
+opening_free (Pass k was again) s m late reason current e = tt
+opening_free (Back k was) s m late reason current e = tt
+opening_free (Leave k was) s m late reason current e = tt
+opening_free (Over ending) s m late reason current e = tt
+
+pub opening_reads : (mode : Mode) (s : Machine) (m late : ℕ) (reason : Reason) (read_with : ℕ) → opening mode s m late ≡ Some reason → ReadsWith mode read_with
+opening_reads Free s m late reason read_with e = tt
+opening_reads (Hold k was) s m late reason read_with e = absurd (cc)
+opening_reads (Pass k was again) s m late reason read_with e = tt
+opening_reads (Back k was) s m late reason read_with e = tt
+opening_reads (Leave k was) s m late reason read_with e = tt
+opening_reads (Over ending) s m late reason read_with e = tt
+
+-- a processor that isn't late is gathered
+pub gathered_in : (mode : Mode) (late current : ℕ) → ReadsWith mode late → has_bit late current ≡ false → IsGathered mode current
+gathered_in Free late current reads e = tt
+gathered_in (Hold k was) late current reads e = ap (λ l. has_bit l current) reads ∙ e
+gathered_in (Pass k was again) late current reads e = tt
+gathered_in (Back k was) late current reads e = tt
+gathered_in (Leave k was) late current reads e = tt
+gathered_in (Over ending) late current reads e = tt
+
+-- lines, closings and the script's end, by the mode
+
+pub does-Line-of : (s : State) → does s Line ≡ held_line s.mode s.machine.unread s.machine
+unfolding does
+does-Line-of s = refl
+
+pub does-End-of : (s : State) → does s End ≡ closed s.mode s.machine
+unfolding does
+does-End-of s = refl
+
+pub does-ScriptEnd : (s : State) → holds_at_end s.mode s.machine.unread ≡ true → does s (Off ScriptEnd) ≡ Some (record { text = prompt_text s.machine ++ newline; next = record { machine = s.machine; mode = Over ScriptEnd } })
+unfolding does
+does-ScriptEnd s e = cond_true (holds_at_end s.mode s.machine.unread) _ _ e
+
+pub does-ScriptEnd-not : (s : State) → holds_at_end s.mode s.machine.unread ≡ false → does s (Off ScriptEnd) ≡ None
+unfolding does
+does-ScriptEnd-not s e = cond_false (holds_at_end s.mode s.machine.unread) _ _ e
+
+-- with one hart nobody is late
+
+none_late : (late : ℕ) → late < 2 → has_bit late 0 ≡ false → late ≡ 0
+none_late zero lt e = refl
+none_late (suc zero) lt e = absurd (false≢true (sym e))
+none_late (suc (suc late)) lt e = absurd (omega arith)
+
+sits_alone : (harts : ℕ) (m : Hart) (late : ℕ) → harts ≡ 1 → IsSitting harts m late → (m.0 ≡ 0) × (late ≡ 0)
+sits_alone harts m late one sits =
+    let first : m.0 ≡ 0 = let lt = sits.master in omega arith in
+    let few : late < 2 = rw one at sits.late_ones in
+    (first, none_late late few (rw first at sits.on_time))
+
+both_zero : (m late : ℕ) → m ≡ 0 → late ≡ 0 → ((m == 0) && (late == 0)) ≡ true
+both_zero m late e f = rw (e, f) refl
+
+pub alone_of : (harts : ℕ) (mode : Mode) → harts ≡ 1 → Fits harts mode → IsTrue (is_alone mode)
+alone_of harts Free one fits = refl
+alone_of harts (Hold m late) one fits = absurd (fits.1 (sits_alone harts m late one fits.0).1)
+alone_of harts (Pass m late again) one fits = both_zero m.0 late (sits_alone harts m late one fits).0 (sits_alone harts m late one fits).1
+alone_of harts (Back m late) one fits = both_zero m.0 late (sits_alone harts m late one fits).0 (sits_alone harts m late one fits).1
+alone_of harts (Leave m late) one fits = absurd (fits.1 (sits_alone harts m late one fits.0).1)
+alone_of harts (Over ending) one fits = refl

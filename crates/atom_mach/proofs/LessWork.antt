@@ -68,7 +68,7 @@ less-Instr s d alone e =
     let p = and_true (is_hart s.machine 0) (may_run s 0 || may_pass s 0) t.0 in
     rw (← t.1)
     (either_case (may_run s 0) (may_pass s 0) p.1
-    (λ runs_is. let w = free_weight s.mode (may_run-alone s alone runs_is).0 in let below = below_limit s runs_is in omega arith)
+    (λ runs_is. let w = free_weight s.mode (may_run-alone s alone runs_is) in let below = below_limit s runs_is in omega arith)
     (λ passes. let w = pass_weight s.mode alone (and_true (owes s.mode 0) _ passes).0 in omega arith))
 
 less-Off : (s : State) (ending : Ending) (d : Done) → ended s ending ≡ Some d → work_left d.next < work_left s

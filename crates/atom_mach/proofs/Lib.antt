@@ -1,5 +1,8 @@
 pub mod Steps
-pub mod Sessions
+pub mod SessionLines
 pub mod Allowed
-pub mod Turns
+pub mod Moved
+pub mod FirstSteps
 pub mod LessWork
+pub mod Joined
+pub mod Masks

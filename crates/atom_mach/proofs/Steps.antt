@@ -1,6 +1,6 @@
--- Which steps a machine with one hart may make.
-use Rattle.std.proofs.Common.{◌≡◌, ℕ, ◌<◌, ◌==◌, ◌&&◌, ◌||◌, Bool, true, false, not, cond, IsTrue, List, [], ◌∷◌, length, get_or, Option, Some, None, Result, Ok, Err, nat_lt, is_none, option_map, refl, sym, ◌∙◌, arith, rules}
-use Rattle.std.proofs.lemmas.Bool.{false≢true}
+-- Which steps a machine may make.
+use Rattle.std.proofs.Common.{◌≡◌, ◌≢◌, ℕ, ◌<◌, ◌==◌, ◌&&◌, ◌||◌, Bool, true, false, not, cond, IsTrue, List, [], ◌∷◌, length, get_or, Option, Some, None, Result, Ok, Err, nat_lt, is_none, option_map, refl, sym, ◌∙◌, arith, rules}
+use Rattle.std.proofs.lemmas.Bool.{false≢true, ltb-true}
 use Rattle.mach_base.specs.Machine.{Context, Memory, Machine}
 use Rattle.mach_base.specs.declared.event.Hart.{Hart}
 use Rattle.mach_base.specs.declared.event.Fault.{Fault}
@@ -14,10 +14,10 @@ use Rattle.atom_mach.specs.declared.step.AStep.TheVariants.{Instr, Off}
 use Rattle.hart_step.specs.Faults.{word_fault}
 use Rattle.kdb_bp.specs.Breaks.{first_enabled}
 use Rattle.atom_mach.specs.State.{State, context_at}
-use Rattle.atom_mach.specs.Step.{Done, does, ended, is_free, holds_at_end, all_halted, is_hart, may_run, may_pass, executed, mode_after, trap, trap_in, fault_of, fetched_at, fault_of_fetched, trap_of_fetched, breakpoint_or, runs, console_text, ebreak_word}
+use Rattle.atom_mach.specs.Step.{Done, does, ended, is_free, all_halted, is_hart, may_run, may_pass, owes, executed, mode_after, trap, late_trap, trap_in, fault_of, fetched_at, fault_of_fetched, trap_of_fetched, breakpoint_or, runs, console_text, ebreak_word}
 use Rattle.trap_ipi.specs.Interrupt.{is_takeable}
 use Rattle.mach_base.specs.Texts.{has_bit}
-use Rattle.atom_mach.specs.Modes.{is_alone}
+use Rattle.atom_mach.specs.Modes.{Fits, is_alone}
 
 pub cond_true : {A : Type 0} (b : Bool) (x y : A) → b ≡ true → cond b x y ≡ x
 cond_true b x y e = rw e refl
@@ -33,18 +33,10 @@ pub and_false : (a : Bool) → (a && false) ≡ false
 and_false true = refl
 and_false false = refl
 
-at_end_alone : (mode : Mode) (unread : List (List ℕ)) → IsTrue (is_alone mode) → holds_at_end mode unread ≡ false
-at_end_alone Free unread h = refl
-at_end_alone (Hold m late) unread h = absurd (false≢true h)
-at_end_alone (Pass m late again) unread h = refl
-at_end_alone (Back m late) unread h = refl
-at_end_alone (Leave m late) unread h = refl
-at_end_alone (Over ending) unread h = refl
-
--- with nobody late only the endings of a free machine come
-pub does-Off : (s : State) (e : Ending) → IsTrue (is_alone s.mode) → does s (Off e) ≡ ended s e
+-- the endings of a free machine
+pub does-Off : (s : State) (e : Ending) → e ≢ ScriptEnd → does s (Off e) ≡ ended s e
 unfolding does
-does-Off s ScriptEnd h = cond_false (holds_at_end s.mode s.machine.unread) _ _ (at_end_alone s.mode s.machine.unread h) ∙ sym (cond_false (is_free s.mode && false) _ _ (and_false (is_free s.mode)))
+does-Off s ScriptEnd h = absurd (h refl)
 does-Off s AllHalted h = refl
 does-Off s StepLimit h = refl
 does-Off s PlanEnd h = sym (cond_false (is_free s.mode && false) _ _ (and_false (is_free s.mode)))
@@ -81,13 +73,17 @@ late_none true late h e =
     let none : late ≡ 0 = search rules in
     false≢true (rw none at e)
 
-runs_alone : (mode : Mode) (opened : Bool) → IsTrue (is_alone mode) → runs mode opened 0 ≡ true → (mode ≡ Free) × (opened ≡ true)
-runs_alone Free opened h e = (refl, e)
+-- with nobody late hart 0 runs in the free machine alone
+runs_alone : (mode : Mode) (opened : Bool) → IsTrue (is_alone mode) → runs mode opened 0 ≡ true → mode ≡ Free
+runs_alone Free opened h e = refl
 runs_alone (Hold m late) opened h e = absurd (false≢true h)
 runs_alone (Pass m late again) opened h e = absurd (late_none (m.0 == 0) late h e)
 runs_alone (Back m late) opened h e = absurd (late_none (m.0 == 0) late h e)
 runs_alone (Leave m late) opened h e = absurd (false≢true h)
 runs_alone (Over ending) opened h e = absurd (false≢true e)
+
+pub may_run-alone : (s : State) → IsTrue (is_alone s.mode) → may_run s 0 ≡ true → s.mode ≡ Free
+may_run-alone s alone e = runs_alone s.mode s.machine.opened alone (and_true (runs s.mode s.machine.opened 0) _ e).0
 
 none_fault : (c : Context) (harts : ℕ) (m : Memory) (r : Result ℕ Fault) → trap_of_fetched c harts m r ≡ None → fault_of_fetched c harts m r ≡ None
 none_fault c harts m (Err f) e = absurd (cc)
@@ -106,40 +102,76 @@ is_none-None : {A : Type 0} (o : Option A) → is_none o ≡ true → o ≡ None
 is_none-None None e = refl
 is_none-None (Some x) e = absurd (false≢true e)
 
--- a hart with no trap has no fault
-pub fault_of-trap : (s : Machine) (h : ℕ) → s.opened ≡ true → (context_at s h).halted ≡ false → trap s h ≡ None → fault_of s h ≡ None
-unfolding trap fault_of
-fault_of-trap s h opened awake e =
-    none_fault (context_at s h) (length s.harts) s.memory (fetched_at s h) (none_behind (first_enabled (context_at s h).pc s.places) _ (behind s.opened (h == 0) (context_at s h).halted _ opened awake e))
-  where
-    behind : (a b c : Bool) (r : Option Reason) → a ≡ true → c ≡ false → cond (not a && b) (Some Start) (cond c None r) ≡ None → r ≡ None
-    behind true b false r p q e = e
-    behind true b true r p q e = absurd (false≢true (sym q))
-    behind false b c r p q e = absurd (false≢true p)
+none_unless_start : (a b c : Bool) (r : Option Reason) → c ≡ false → cond (not a && b) (Some Start) (cond c None r) ≡ None → r ≡ None
+none_unless_start true b c r e h = sym (cond_false c None r e) ∙ h
+none_unless_start false true c r e h = absurd (cc)
+none_unless_start false false c r e h = sym (cond_false c None r e) ∙ h
 
--- the hart that may execute is in the free machine, and has no fault
-pub may_run-alone : (s : State) → IsTrue (is_alone s.mode) → may_run s 0 ≡ true → (s.mode ≡ Free) × (fault_of s.machine 0 ≡ None)
-may_run-alone s alone e =
-    let c = context_at s.machine 0 in
-    let p = and_true (runs s.mode s.machine.opened 0) _ e in
+-- a hart with no trap has no fault
+fault_of-trap : (s : Machine) (h : ℕ) → (context_at s h).halted ≡ false → trap s h ≡ None → fault_of s h ≡ None
+unfolding trap fault_of
+fault_of-trap s h awake e =
+    none_fault (context_at s h) (length s.harts) s.memory (fetched_at s h) (none_behind (first_enabled (context_at s h).pc s.places) _ (none_unless_start s.opened (h == 0) (context_at s h).halted _ awake e))
+
+fault_of-late_trap : (s : Machine) (h : ℕ) → (context_at s h).halted ≡ false → late_trap s h ≡ None → fault_of s h ≡ None
+unfolding late_trap fault_of
+fault_of-late_trap s h awake e =
+    none_fault (context_at s h) (length s.harts) s.memory (fetched_at s h) (none_unless_start s.opened (h == 0) (context_at s h).halted _ awake e)
+
+fault_of-trap_in : (mode : Mode) (s : Machine) (h : ℕ) → (context_at s h).halted ≡ false → trap_in mode s h ≡ None → fault_of s h ≡ None
+fault_of-trap_in Free s h awake e = fault_of-trap s h awake e
+fault_of-trap_in (Hold m late) s h awake e = fault_of-late_trap s h awake e
+fault_of-trap_in (Pass m late again) s h awake e = fault_of-late_trap s h awake e
+fault_of-trap_in (Back m late) s h awake e = fault_of-late_trap s h awake e
+fault_of-trap_in (Leave m late) s h awake e = fault_of-late_trap s h awake e
+fault_of-trap_in (Over ending) s h awake e = fault_of-late_trap s h awake e
+
+not_true : (b : Bool) → not b ≡ true → b ≡ false
+not_true true e = absurd (false≢true e)
+not_true false e = refl
+
+-- a hart that may execute has no fault
+pub may_run-right : (s : State) (h : ℕ) → may_run s h ≡ true → fault_of s.machine h ≡ None
+may_run-right s h e =
+    let c = context_at s.machine h in
+    let p = and_true (runs s.mode s.machine.opened h) _ e in
     let q = and_true (not c.halted) _ p.1 in
     let r = and_true (not (is_takeable c)) _ q.1 in
     let t = and_true (nat_lt s.machine.steps s.machine.limit) _ r.1 in
-    let free = runs_alone s.mode s.machine.opened alone p.0 in
-    let no_trap : trap_in s.mode s.machine 0 ≡ None = is_none-None (trap_in s.mode s.machine 0) t.1 in
-    (free.0, fault_of-trap s.machine 0 free.1 (not_true c.halted q.0) (in_free s.mode s.machine free.0 no_trap))
-  where
-    not_true : (b : Bool) → not b ≡ true → b ≡ false
-    not_true true e = absurd (false≢true e)
-    not_true false e = refl
+    fault_of-trap_in s.mode s.machine h (not_true c.halted q.0) (is_none-None (trap_in s.mode s.machine h) t.1)
 
-    in_free : (mode : Mode) (s : Machine) → mode ≡ Free → trap_in mode s 0 ≡ None → trap s 0 ≡ None
-    in_free mode s e h = rw e at h
+-- and there are steps left
+pub may_run-below : (s : State) (h : ℕ) → may_run s h ≡ true → s.machine.steps < s.machine.limit
+may_run-below s h e =
+    let p = and_true (runs s.mode s.machine.opened h) _ e in
+    let q = and_true _ _ p.1 in
+    let r = and_true _ _ q.1 in
+    let t = and_true (nat_lt s.machine.steps s.machine.limit) _ r.1 in
+    ltb-true s.machine.steps s.machine.limit t.0
 
--- a list of one context gives it, whatever stands for none
-pub context_one : (cs : List Context) (d e : Context) → length cs ≡ 1 → get_or cs 0 d ≡ get_or cs 0 e
-context_one [] d e h = absurd (omega arith)
-context_one (c ∷ cs) d e h = refl
+not_owed : (late m h : ℕ) (b : Bool) (x : Mode) (mode : Mode) → (m == h) ≡ b → has_bit late m ≡ false → has_bit late h ≡ true → cond b x mode ≡ mode
+not_owed late m h false x mode e on_time runs_is = refl
+not_owed late m h true x mode e on_time runs_is =
+    let same : m ≡ h = search rules in
+    absurd (false≢true (sym (rw same at on_time) ∙ runs_is))
+
+-- and the mode stays: the hart of a pass isn't late
+runs-mode : (harts : ℕ) (mode : Mode) (opened : Bool) (h : ℕ) → Fits harts mode → runs mode opened h ≡ true → mode_after mode h ≡ mode
+runs-mode harts Free opened h fits e = refl
+runs-mode harts (Hold m late) opened h fits e = refl
+runs-mode harts (Pass m late again) opened h fits e = not_owed late m.0 h (m.0 == h) _ (Pass m late again) refl fits.on_time e
+runs-mode harts (Back m late) opened h fits e = refl
+runs-mode harts (Leave m late) opened h fits e = refl
+runs-mode harts (Over ending) opened h fits e = refl
+
+pub may_run-mode : (harts : ℕ) (s : State) (h : ℕ) → Fits harts s.mode → may_run s h ≡ true → mode_after s.mode h ≡ s.mode
+may_run-mode harts s h fits e = runs-mode harts s.mode s.machine.opened h fits (and_true (runs s.mode s.machine.opened h) _ e).0
+
+-- a hart that owes an instruction and may execute it has no fault
+pub may_pass-right : (s : State) (h : ℕ) → may_pass s h ≡ true → (owes s.mode h ≡ true) × (fault_of s.machine h ≡ None)
+may_pass-right s h e =
+    let p = and_true (owes s.mode h) (is_none (fault_of s.machine h)) e in
+    (p.0, is_none-None (fault_of s.machine h) p.1)
 
 -- equal parts make equal answers
 pub same_done : (t u : List ℕ) (a b : Machine) (m n : Mode) → u ≡ t → b ≡ a → n ≡ m → ◌≡◌ {A = Done} (record { text = t; next = record { machine = a; mode = m } }) (record { text = u; next = record { machine = b; mode = n } })

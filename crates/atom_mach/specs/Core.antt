@@ -2,7 +2,7 @@
 use Rattle.std.specs.Prelude.{drop}
 use Rattle.mach_base.specs.Machine.{Machine}
 use Rattle.atom_mach.specs.State.{State}
-use Rattle.atom_mach.specs.declared.one_hart.Core.{Core}
+use Rattle.atom_mach.specs.declared.machine.Core.{Core}
 
 abbrev pub machine_of : Core → Machine
 machine_of c = record {

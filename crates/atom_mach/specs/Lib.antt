@@ -4,6 +4,7 @@ pub mod State
 pub mod Step
 pub mod Run
 pub mod Modes
+pub mod Tried
 pub mod Core
 pub mod Work
 pub mod StateCode

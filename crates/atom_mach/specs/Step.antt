@@ -1,6 +1,7 @@
 -- The steps of the atomic machine: where each is allowed, what it does and what it prints.
 use Rattle.std.specs.Prelude.{ℕ, ◌+◌, ◌-◌, ◌^◌, ◌==◌, ◌&&◌, ◌||◌, Bool, true, false, not, List, [], ◌∷◌, ◌++◌, length, codes, Option, Some, None, Result, Ok, Err, nat_lt, nat_le, is_none, option_map, unwrap_or, if◌then◌else◌}
 use Rattle.std.specs.Option.{option_to_list}
+use Rattle.std.specs.List.{list_all}
 use Rattle.mach_base.specs.Texts.{newline, has_bit}
 use Rattle.mach_base.specs.Machine.{Context, Memory, Machine}
 use Rattle.mach_base.specs.declared.event.Hart.{Hart}
@@ -241,9 +242,9 @@ session s m reason = prefixed (banner_text 0 m.0 reason (context_at s m.0).pc) (
 
 -- Endings.
 
+-- whether each hart is halted
 abbrev pub all_halted : List Context → Bool
-all_halted [] = true
-all_halted (c ∷ cs) = c.halted && all_halted cs
+all_halted cs = list_all (λ c. c.halted) cs
 
 -- whether the ending is true of a free machine
 abbrev pub is_true_ending : Machine → Ending → Bool

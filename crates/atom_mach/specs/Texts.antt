@@ -38,10 +38,18 @@ late_text late =
     if late == 0 then []
     else codes "Timed out waiting for secondary CPUs: " ++ (joined_by_blank (filter (has_bit late) (range_with_len 0 16)) ++ newline)
 
--- the banner of a session: who came too late, then who entered, why and where
+-- a number, behind a blank where it isn't the first
+abbrev pub joined_by : Bool → ℕ → List ℕ
+joined_by first h = if first then dec_text h else 32 ∷ dec_text h
+
+-- the line that says who entered, why and where
+unfoldable pub entering_text : ℕ → Reason → ℕ → List ℕ
+entering_text h reason pc =
+    codes "Entering kdb on processor " ++ (dec_text h ++ (codes " due to " ++ (reason_text reason ++ (codes " @ " ++ (address_text pc ++ newline)))))
+
+-- the banner of a session: who came too late, then who entered
 unfoldable pub banner_text : ℕ → ℕ → Reason → ℕ → List ℕ
-banner_text late h reason pc =
-    late_text late ++ (codes "Entering kdb on processor " ++ (dec_text h ++ (codes " due to " ++ (reason_text reason ++ (codes " @ " ++ (address_text pc ++ newline))))))
+banner_text late h reason pc = late_text late ++ entering_text h reason pc
 
 -- how a run ends, in words
 unfoldable pub ending_text : Ending → List ℕ

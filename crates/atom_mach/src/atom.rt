@@ -1,4 +1,4 @@
-use crate::one_hart::Core;
+use crate::machine::Core;
 use crate::script::checked_lines;
 use crate::step::{AStep, Mode, StepFault};
 use img_text::{Image, boot};
@@ -8,7 +8,7 @@ use std::alloc::Global;
 use std::marker::Model;
 use sym_map::Symbols;
 
-/// The atomic machine, in which a session with nobody late is one step. So far it has one hart.
+/// The atomic machine, in which a session with nobody late is one step.
 #[derive(Drop)]
 pub struct Atom {
     core: Core,
@@ -27,17 +27,17 @@ impl Model for Atom {
 }
 
 impl Atom {
-    ghost use Rattle.std.specs.Prelude.{◌≡◌, ◌<◌, ◌≤◌, ◌↔◌, Err, Ok, Some, None, IfOk, OnOk};
+    ghost use Rattle.std.specs.Prelude.{◌≡◌, ◌<◌, ◌≤◌, ◌↔◌, Err, Ok, Some, None, IfOk, OnOk, length};
     ghost use Rattle.atom_mach.specs.Script.{checked_script};
     ghost use Rattle.atom_mach.specs.State.{start_state};
     ghost use Rattle.atom_mach.specs.Run.{Turns};
     ghost use Rattle.atom_mach.specs.Work.{work_left};
     ghost use Rattle.atom_mach.specs.Step.{does};
-    ghost use Rattle.atom_mach.specs.Modes.{IsSingle, ending_of};
+    ghost use Rattle.atom_mach.specs.Modes.{Fits, ending_of};
     ghost use Rattle.atom_mach.specs.declared.step.StepFault.TheVariants.{NotNow};
 
-    /// The machine at the start, with this many harts, so far one: memory and contexts from the image, the whole
-    /// script unread, at most `limit` steps to make, 1 to 4,000,000.
+    /// The machine at the start, with this many harts, 1 to 16: memory and contexts from the image, the whole script
+    /// unread, at most `limit` steps to make, 1 to 4,000,000.
     #[tactic(auto, unfolding(crate::specs::State::start_state))]
     pub fn start(
         alloc: Global,
@@ -47,7 +47,8 @@ impl Atom {
         harts: u8,
         limit: u64,
     ) -> Result<Atom, OutOfMemory>
-        requires one_hart { harts ≡ 1 }
+        requires some_harts { 1 ≤ harts }
+        requires few_harts { harts ≤ 16 }
         requires right { checked_script script.now ≡ Ok tt }
         requires low { 1 ≤ limit }
         requires high { limit ≤ 4000000 }
@@ -75,9 +76,11 @@ impl Atom {
     /// Makes the first step that is allowed of taking the interrupt, opening the session, executing, and ending for
     /// one of the two endings of a free machine; answers what it prints.
     pub fn turn(&mut self) -> Result<Text, OutOfMemory>
+        requires one_hart { length self.old.machine.harts ≡ 1 }
         requires running { ending_of self.old.mode ≡ None }
         ensures step { IfOk result (λ text. Turns self.old text self.new) }
         ensures less { OnOk result (work_left self.new < work_left self.old) }
+        ensures harts { OnOk result (length self.new.machine.harts ≡ length self.old.machine.harts) }
     {
         let mut out = Vec::new(*self.core.lines.allocator());
         self.core.turn(&mut out)?;
@@ -90,7 +93,7 @@ impl Atom {
         ensures done { IfOk result (λ text. does self.old step ≡ Some (record { text = text; next = self.new })) }
         ensures not_now { (result ≡ Err NotNow) ↔ (does self.old step ≡ None) }
         ensures kept { result ≡ Err NotNow → self.new ≡ self.old }
-        ensures single { IsSingle self.new }
+        ensures fits { Fits (length self.new.machine.harts) self.new.mode }
     {
         let mut out = Vec::new(*self.core.lines.allocator());
         match self.core.try_step(&mut out, step) {

@@ -17,10 +17,14 @@
 #![tactic(auto)]
 
 mod atom;
-mod one_hart;
+mod endings;
+mod machine;
+mod moves;
 mod script;
+mod sessions;
 mod step;
 mod texts;
+mod turns;
 
 pub use atom::Atom;
 pub use script::{ScriptFault, check_script};

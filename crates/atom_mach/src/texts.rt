@@ -1,8 +1,11 @@
-ghost use Rattle.std.specs.Prelude.{◌≡◌, ◌++◌, OnOk, OnErr};
-ghost use Rattle.atom_mach.specs.Texts.{cause_text, reason_text, banner_text, ending_text, ending_line, begins_with_d, with_number};
+ghost use Rattle.std.specs.Prelude.{◌≡◌, ◌<◌, ◌++◌, ◌&&◌, [], not, filter, IfOk, OnOk, OnErr, if◌then◌else◌};
+ghost use Rattle.std.specs.List.{range_with_len};
+ghost use Rattle.mach_base.specs.Texts.{has_bit};
+ghost use Rattle.atom_mach.specs.Texts.{cause_text, reason_text, joined_by, joined_by_blank, late_text, entering_text, banner_text, ending_text, ending_line, begins_with_d, with_number};
 
 use mach_base::{
-    Cause, Ending, Hart, OutOfMemory, Reason, push_address, push_bytes, push_dec, push_newline,
+    Cause, Ending, Hart, OutOfMemory, Reason, has_bit, push_address, push_bytes, push_dec,
+    push_newline,
 };
 
 #[tactic(auto, unfolding(crate::specs::Texts::cause_text))]
@@ -41,15 +44,58 @@ fn push_reason(out: &mut Vec<u8>, reason: Reason) -> Result<(), OutOfMemory>
     Ok(())
 }
 
-/// Appends the banner of a session with nobody late: who entered, why and at which pc.
-#[tactic(auto, unfolding(crate::specs::Texts::banner_text, crate::specs::Texts::late_text))]
-pub fn push_banner(
-    out: &mut Vec<u8>,
-    hart: Hart,
-    reason: Reason,
-    pc: u64,
-) -> Result<(), OutOfMemory>
-    ensures { OnOk result (out.new.items ≡ out.old.items ++ banner_text 0 hart.0 reason pc) }
+/// Appends a number, behind a blank where it isn't the first.
+fn push_joined(out: &mut Vec<u8>, first: bool, number: u8) -> Result<(), OutOfMemory>
+    ensures { OnOk result (out.new.items ≡ out.old.items ++ joined_by first number) }
+{
+    if !first {
+        push_bytes(out, b" ")?;
+    }
+    push_dec(out, u64::from(number))?;
+    Ok(())
+}
+
+/// Appends a number where the mask has it; the answer is whether the next one is still the first.
+fn push_if_in(out: &mut Vec<u8>, first: bool, mask: u64, number: u8) -> Result<bool, OutOfMemory>
+    requires { number < 16 }
+    ensures text { OnOk result (out.new.items ≡ out.old.items ++ (if has_bit mask number then joined_by first number else [])) }
+    ensures first { IfOk result (λ still. still ≡ (first && not (has_bit mask number))) }
+{
+    if has_bit(mask, number) {
+        push_joined(out, first, number)?;
+        return Ok(false);
+    }
+    Ok(first)
+}
+
+/// Appends the numbers of a mask's harts, joined by one blank.
+fn push_numbers(out: &mut Vec<u8>, mask: u64) -> Result<(), OutOfMemory>
+    ensures { OnOk result (out.new.items ≡ out.old.items ++ joined_by_blank (filter (has_bit mask) (range_with_len 0 16))) }
+{
+    let mut first = true;
+    for number in 0..16u8 {
+        first = push_if_in(out, first, mask, number)?;
+    }
+    Ok(())
+}
+
+/// Appends the line that names the harts that came too late, where there are any.
+#[tactic(auto, unfolding(crate::specs::Texts::late_text))]
+fn push_late(out: &mut Vec<u8>, late: u64) -> Result<(), OutOfMemory>
+    ensures { OnOk result (out.new.items ≡ out.old.items ++ late_text late) }
+{
+    if late != 0 {
+        push_bytes(out, b"Timed out waiting for secondary CPUs: ")?;
+        push_numbers(out, late)?;
+        push_newline(out)?;
+    }
+    Ok(())
+}
+
+/// Appends the line that says who entered, why and at which pc.
+#[tactic(auto, unfolding(crate::specs::Texts::entering_text))]
+fn push_entering(out: &mut Vec<u8>, hart: Hart, reason: Reason, pc: u64) -> Result<(), OutOfMemory>
+    ensures { OnOk result (out.new.items ≡ out.old.items ++ entering_text hart.0 reason pc) }
 {
     push_bytes(out, b"Entering kdb on processor ")?;
     push_dec(out, u64::from(hart.0))?;
@@ -58,6 +104,22 @@ pub fn push_banner(
     push_bytes(out, b" @ ")?;
     push_address(out, pc)?;
     push_newline(out)?;
+    Ok(())
+}
+
+/// Appends the banner of a session: who came too late, then who entered, why and at which pc.
+#[tactic(auto, unfolding(crate::specs::Texts::banner_text))]
+pub fn push_banner(
+    out: &mut Vec<u8>,
+    late: u64,
+    hart: Hart,
+    reason: Reason,
+    pc: u64,
+) -> Result<(), OutOfMemory>
+    ensures { OnOk result (out.new.items ≡ out.old.items ++ banner_text late hart.0 reason pc) }
+{
+    push_late(out, late)?;
+    push_entering(out, hart, reason, pc)?;
     Ok(())
 }
 

@@ -1,12 +1,12 @@
 use Rattle.std.proofs.Common.{codes, ◌++◌}
 use Rattle.mach_base.specs.Number.{dec_text}
 use Rattle.mach_base.specs.Texts.{newline, address_text}
-use Rattle.atom_mach.specs.Texts.{reason_text, late_text, banner_text}
+use Rattle.atom_mach.specs.Texts.{reason_text, entering_text}
 use Rattle.mach_base.proofs.Joins.{join4}
-use Rattle.atom_mach.proofs.texts.push_banner.Goals as goal
+use Rattle.atom_mach.proofs.texts.push_entering.Goals as goal
 
 pub returns : goal.returns
-unfolding banner_text late_text
+unfolding entering_text
 returns c =
     join4 c.args.out.now.items c.push_bytes.new.out.items c.push_dec.new.out.items c.push_bytes-2.new.out.items c.push_newline.new.out.items
     (codes "Entering kdb on processor ") (dec_text c.args.hart.0) (codes " due to ") (reason_text c.args.reason ++ (codes " @ " ++ (address_text c.args.pc ++ newline)))

@@ -1,15 +1,15 @@
 -- The lines of a session, one after the other.
-use Rattle.std.proofs.Common.{◌≡◌, ℕ, suc, ◌+◌, ◌<◌, true, List, [], ◌∷◌, ◌++◌, length, get_or, take, drop, refl, sym, ap, ◌∙◌, append_assoc, add-one}
+use Rattle.std.proofs.Common.{◌≡◌, ℕ, zero, suc, ◌+◌, ◌<◌, ◌≤◌, true, nat_eq, List, [], ◌∷◌, ◌++◌, length, get_or, take, drop, refl, sym, ap, ◌∙◌, append_assoc, add-one, arith}
+use Rattle.std.proofs.lemmas.Bool.Decides.{nat_tests}
 use Rattle.std.proofs.Math.Seq.{drop-cons}
 use Rattle.mach_base.specs.Machine.{Machine}
 use Rattle.mach_base.specs.declared.event.Hart.{Hart}
 use Rattle.kdb_cmd.specs.declared.outcomes.Outcome.{Outcome}
 use Rattle.kdb_cmd.specs.declared.outcomes.Outcome.TheVariants.{Stay, Go, Step as StepOut}
 use Rattle.mach_base.specs.declared.event.Ending.TheVariants.{ScriptEnd}
-use Rattle.atom_mach.specs.declared.step.Mode.TheVariants.{Pass, Over}
+use Rattle.atom_mach.specs.declared.step.Mode.TheVariants.{Hold, Pass, Over}
 use Rattle.mach_base.specs.Texts.{newline}
-use Rattle.atom_mach.specs.Step.{Done, gathered, line_state, said_by, prompt_text, with_read, line_said, line_text, after_line, session_lines, prefixed, mode_of_go}
-use Rattle.mach_base.proofs.Joins.{join4}
+use Rattle.atom_mach.specs.Step.{Done, gathered, line_state, said_by, prompt_text, with_read, line_said, line_text, after_line, session_lines, prefixed, mode_of_go, holds_at_end}
 use Rattle.kdb_cmd.specs.LineState.{LineState, Answer}
 use Rattle.kdb_cmd.specs.Line as debugger
 
@@ -28,14 +28,19 @@ taken (w ∷ ws) more = ap (λ xs. w ∷ xs) (taken ws more)
 pub written_over : {A : Type 0} (n : ℕ) (ws more : List A) → length ws ≡ n → take n (ws ++ more) ≡ ws
 written_over n ws more e = ap (λ k. take k (ws ++ more)) (sym e) ∙ taken ws more
 
--- the prompt, the line, its end and its output, appended one after the other
-pub spoken : (o p q r t prompt now line output : List ℕ) → now ≡ line → p ≡ o ++ prompt → q ≡ p ++ now → r ≡ q ++ newline → t ≡ r ++ output → t ≡ o ++ (prompt ++ (line ++ (newline ++ output)))
-spoken o p q r t prompt now line output same a b e f = rw (← same) (join4 o p q r t prompt now newline output a b e f)
+-- the prompt with the line and its end, and behind them what the line says
+pub spoken : (o p q prompt line end said output : List ℕ) {now : List ℕ} → p ≡ o ++ (prompt ++ (line ++ end)) → q ≡ p ++ now → now ≡ said → said ≡ output → q ≡ o ++ (prompt ++ (line ++ (end ++ output)))
+spoken o p q prompt line end said output {now = now} a b same is =
+    b
+    ∙ ap (λ t. p ++ t) (same ∙ is)
+    ∙ ap (λ t. t ++ output) a
+    ∙ append_assoc o (prompt ++ (line ++ end)) output
+    ∙ ap (λ t. o ++ t) (append_assoc prompt (line ++ end) output ∙ ap (λ t. prompt ++ t) (append_assoc line end output))
 
 -- what the debugger answers to a line is what the line does
-pub ran : (s : Machine) (g : ℕ) (now line : List ℕ) (t : LineState) (a : Answer) → now ≡ line → g ≡ gathered s 0 → t ≡ line_state s → debugger.line_said g 0 now t ≡ a → line_said (record { 0 = 0 }) 0 line s ≡ said_by s a
+pub ran : (s : Machine) (m : Hart) (late g : ℕ) (now line : List ℕ) (t : LineState) (a : Answer) → now ≡ line → g ≡ gathered s late → t ≡ line_state s → debugger.line_said g m.0 now t ≡ a → line_said m late line s ≡ said_by s a
 unfolding line_said
-ran s g now line t a same all state e = ap (said_by s) (rw (same, all, state) at e)
+ran s m late g now line t a same all state e = ap (said_by s) (rw (same, all, state) at e)
 
 -- text before text
 pub prefixed-prefixed : (a b : List ℕ) (d : Done) → prefixed a (prefixed b d) ≡ prefixed (a ++ b) d
@@ -76,3 +81,13 @@ session_lines-step m line rest s out e =
 pub session_lines-end : (m : Hart) (s : Machine) (out : List ℕ) → prefixed out (session_lines m [] s) ≡ record { text = out ++ (prompt_text s ++ newline); next = record { machine = s; mode = Over ScriptEnd } }
 unfolding session_lines
 session_lines-end m s out = refl
+
+-- all lines are read where none is left
+pub at_end : (m : Hart) (late : ℕ) (lines : List (List ℕ)) (i : ℕ) → i ≤ length lines → nat_eq i (length lines) ≡ holds_at_end (Hold m late) (drop i lines)
+at_end m late [] zero le = refl
+at_end m late [] (suc i) le = absurd (omega arith)
+at_end m late (x ∷ xs) zero le = grind (arith, nat_tests)
+at_end m late (x ∷ xs) (suc i) le =
+    let fewer : i ≤ length xs = omega arith in
+    let same : nat_eq (suc i) (length (x ∷ xs)) ≡ nat_eq i (length xs) = grind (arith, nat_tests) in
+    same ∙ at_end m late xs i fewer

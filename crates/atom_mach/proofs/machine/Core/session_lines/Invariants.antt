@@ -1,12 +1,14 @@
 use Rattle.std.proofs.Common.{◌≡◌, ◌-◌, vec_len}
 use Rattle.atom_mach.specs.Step.{session_lines, prefixed}
 use Rattle.atom_mach.specs.Core.{machine_of}
-use Rattle.atom_mach.proofs.one_hart.Core.session_lines.Given as goal
+use Rattle.atom_mach.proofs.machine.Core.session_lines.Given as goal
 
 -- what was printed and what is left to run are what was to run
 abbrev pub invariant-loop-self : goal.invariant-loop-self
 invariant-loop-self l = record {
-  told : prefixed l.out.items (session_lines (record { 0 = 0 }) (machine_of l.self).unread (machine_of l.self)) ≡ prefixed l.fn.out.items (session_lines (record { 0 = 0 }) (machine_of l.fn.self).unread (machine_of l.fn.self));
+  harts : vec_len l.self.contexts ≡ vec_len l.fn.self.contexts;
+  mode : l.self.mode ≡ l.fn.self.mode;
+  told : prefixed l.out.items (session_lines l.master (machine_of l.self).unread (machine_of l.self)) ≡ prefixed l.fn.out.items (session_lines l.master (machine_of l.fn.self).unread (machine_of l.fn.self));
 }
 
 abbrev pub decreases-loop-self : goal.decreases-loop-self
