@@ -7,3 +7,4 @@ pub mod Modes
 pub mod Core
 pub mod Work
 pub mod StateCode
+pub mod Late

@@ -17,12 +17,17 @@
 #![tactic(auto)]
 
 mod atom;
+mod laws;
 mod one_hart;
 mod script;
 mod step;
 mod texts;
 
 pub use atom::Atom;
+pub use laws::{
+    gathered_harts_stand, late_sessions_keep_gathered_harts, ruled_runs_are_runs,
+    uni_prints_a_transcript, whole_cut_is_the_session,
+};
 pub use script::{ScriptFault, check_script};
 pub use step::{AStep, Mode, StepFault};
 pub use texts::push_ending_line;
