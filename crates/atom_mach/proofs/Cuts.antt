@@ -1,18 +1,13 @@
 -- Runs by a rule are runs, and a whole session is its own cut.
-use Rattle.std.proofs.Common.{◌≡◌, ℕ, suc, ◌+◌, Bool, true, false, cond, List, [], ◌∷◌, ◌++◌, Option, Some, None, option_map, refl, sym, ap, subst, ◌∙◌, arith}
+use Rattle.std.proofs.Common.{◌≡◌, ℕ, suc, ◌+◌, Bool, true, false, cond, List, [], ◌∷◌, Option, Some, None, refl, ap, subst, ◌∙◌, arith}
 use Rattle.mach_base.specs.Machine.{Machine}
 use Rattle.mach_base.specs.declared.event.Hart.{Hart}
 use Rattle.mach_base.specs.declared.event.Reason.{Reason}
-use Rattle.mach_base.specs.declared.event.Ending.{Ending}
 use Rattle.kdb_cmd.specs.declared.outcomes.Outcome.{Outcome}
 use Rattle.kdb_cmd.specs.declared.outcomes.Outcome.TheVariants.{Stay, Go, Step as StepOut}
-use Rattle.atom_mach.specs.declared.step.AStep.{AStep}
-use Rattle.atom_mach.specs.declared.step.AStep.TheVariants.{Session}
-use Rattle.atom_mach.specs.State.{State, context_at}
-use Rattle.atom_mach.specs.Step.{Done, does, prefixed, session, session_lines, after_line, line_said, line_text, with_read, entered, opening, opened_for, is_hart}
+use Rattle.atom_mach.specs.Step.{Done, does, session, session_lines, after_line, line_said, line_text, with_read, entered, opening, opened_for, is_hart}
 use Rattle.atom_mach.specs.Modes.{ending_of}
-use Rattle.atom_mach.specs.Texts.{ending_line}
-use Rattle.atom_mach.specs.Run.{Runs, IsTranscript, first_allowed, run_of, then_run, Cut, before_cut, cut_after, cut_lines, cut_for, cut_session, transcript, with_last_text, RuledRunsAreRuns, UniPrintsATranscript, WholeCutIsTheSession}
+use Rattle.atom_mach.specs.Run.{first_allowed, run_of, Cut, cut_lines, cut_for, cut_session, transcript, RuledRunsAreRuns, UniPrintsATranscript, WholeCutIsTheSession}
 
 -- a run by a rule is a run
 pub ruled_runs : RuledRunsAreRuns

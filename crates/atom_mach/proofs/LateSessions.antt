@@ -1,8 +1,8 @@
 -- A session with late harts keeps the harts that it holds, and they stand still.
-use Rattle.std.proofs.Common.{◌≡◌, ℕ, ◌^◌, ◌==◌, ◌&&◌, ◌||◌, eqb, Bool, true, false, not, cond, List, [], ◌∷◌, length, Option, Some, None, Result, Ok, Err, nat_lt, is_none, refl, sym, ap, ◌∙◌}
+use Rattle.std.proofs.Common.{◌≡◌, ℕ, ◌^◌, ◌==◌, ◌&&◌, ◌||◌, eqb, Bool, true, false, not, cond, length, Option, Some, None, Result, Ok, Err, nat_lt, refl, sym, ap}
 use Rattle.std.proofs.lemmas.Bool.{false≢true}
 use Rattle.mach_base.specs.Texts.{has_bit}
-use Rattle.mach_base.specs.Machine.{Context, Machine}
+use Rattle.mach_base.specs.Machine.{Machine}
 use Rattle.mach_base.specs.declared.event.Hart.{Hart}
 use Rattle.mach_base.specs.declared.event.Fault.{Fault}
 use Rattle.mach_base.specs.declared.event.Reason.{Reason}
@@ -12,11 +12,10 @@ use Rattle.hart_ctx.specs.Context.{context_of}
 use Rattle.trap_ipi.specs.Interrupt.{after_interrupt}
 use Rattle.atom_mach.specs.declared.step.Mode.{Mode}
 use Rattle.atom_mach.specs.declared.step.Mode.TheVariants.{Free, Hold, Pass, Back, Leave, Over}
-use Rattle.atom_mach.specs.declared.step.AStep.{AStep}
 use Rattle.atom_mach.specs.declared.step.AStep.TheVariants.{Instr, Intr, Session, Enter, Line, End, Off}
 use Rattle.atom_mach.specs.State.{State, context_at}
-use Rattle.atom_mach.specs.Step.{Done, does, fetched_at, executed, runs, owes, opening, opened_for, held_for, closed, ended, is_free, is_true_ending, holds_at_end, is_hart, may_run, may_pass, may_take}
-use Rattle.atom_mach.specs.Late.{is_gathered, makes, IsUnmoved, LateSessionKeeps, LateSessionsKeepGatheredHarts, StandsStill, GatheredHartsStand}
+use Rattle.atom_mach.specs.Step.{Done, does, fetched_at, executed, runs, owes, opening, held_for, closed, ended, is_free, is_true_ending, holds_at_end, is_hart, may_run, may_pass, may_take}
+use Rattle.atom_mach.specs.Late.{is_gathered, IsUnmoved, LateSessionsKeepGatheredHarts, GatheredHartsStand}
 use Rattle.atom_mach.proofs.Steps.{cond_false, and_true, and_false}
 use Rattle.atom_mach.proofs.Unmoved.{unmoved_same, set_unmoved, instruction_unmoved}
 

@@ -6,3 +6,6 @@ pub mod LessWork
 pub mod Unmoved
 pub mod LateSessions
 pub mod Cuts
+pub mod Kept
+pub mod LimitsKept
+pub mod StartWithin

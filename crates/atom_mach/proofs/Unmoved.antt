@@ -1,14 +1,13 @@
 -- An instruction of a hart leaves the registers and the pc of every other hart.
-use Rattle.std.proofs.Common.{◌≡◌, ◌≢◌, ℕ, zero, suc, ◌==◌, eqb, Bool, true, false, cond, List, [], ◌∷◌, map, length, slice_set, Option, Some, None, Result, Ok, Err, refl, sym, ap, ◌∙◌, arith, get_or-set_same, get_or-set_other}
-use Rattle.std.proofs.lemmas.Bool.{eqb-true, eq-eqb, false≢true}
+use Rattle.std.proofs.Common.{◌≡◌, ◌≢◌, ℕ, zero, suc, eqb, Bool, true, false, cond, List, [], ◌∷◌, map, length, slice_set, Option, Some, None, refl, sym, ap, ◌∙◌, get_or-set_other}
+use Rattle.std.proofs.lemmas.Bool.{eq-eqb, false≢true}
 use Rattle.std.proofs.Math.ListN.{get_or-map}
 use Rattle.mach_base.specs.Machine.{Context, Memory}
-use Rattle.mach_base.specs.declared.event.Fault.{Fault}
 use Rattle.hart_ctx.specs.Context.{context_of, start_context}
 use Rattle.rv_decode.specs.Fields.{Fields, decoded}
 use Rattle.trap_ipi.specs.Service.{is_known, service_number, argument, served, interrupted, after_known, after_service}
 use Rattle.hart_step.specs.declared.class.Class.{Class}
-use Rattle.hart_step.specs.declared.class.Class.TheVariants.{Upper, UpperPc, Jump, JumpRegister, Branch, Load, Store, Immediate, Registers, Order, Reserve, Conditional, Atomic, Service, Breakpoint}
+use Rattle.hart_step.specs.declared.class.Class.TheVariants.{Service}
 use Rattle.hart_step.specs.Operands.{class_of}
 use Rattle.hart_step.specs.Execution.{is_on, without_reservation, stored_granule, ended, context_after, contexts_in, contexts_after}
 use Rattle.atom_mach.specs.Late.{IsUnmoved}

@@ -1,9 +1,8 @@
 -- Sessions with late harts: they keep the registers and the pc of the harts that they hold.
-use Rattle.std.specs.Prelude.{◌≡◌, ℕ, ◌==◌, ◌&&◌, Bool, true, false, not, Option, Some, None}
+use Rattle.std.specs.Prelude.{◌≡◌, ℕ, ◌==◌, ◌&&◌, Bool, true, false, not, Some, None}
 use Rattle.mach_base.specs.Texts.{has_bit}
 use Rattle.mach_base.specs.Machine.{Context}
 use Rattle.mach_base.specs.declared.event.Hart.{Hart}
-use Rattle.mach_base.specs.declared.event.Ending.{Ending}
 use Rattle.atom_mach.specs.declared.step.Mode.{Mode}
 use Rattle.atom_mach.specs.declared.step.Mode.TheVariants.{Free, Hold, Pass, Back, Leave, Over}
 use Rattle.atom_mach.specs.declared.step.AStep.{AStep}

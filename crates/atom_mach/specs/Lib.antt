@@ -8,3 +8,4 @@ pub mod Core
 pub mod Work
 pub mod StateCode
 pub mod Late
+pub mod Limits
