@@ -1,5 +1,5 @@
 -- What each step of a machine leaves as it was.
-use Rattle.std.proofs.Common.{◌≡◌, ℕ, ◌+◌, ◌≤◌, ◌<◌, ◌==◌, eqb, Bool, true, false, cond, List, [], ◌∷◌, map, length, slice_set, Option, Some, None, Result, Ok, Err, refl, sym, ap, ◌∙◌, arith}
+use Rattle.std.proofs.Common.{◌≡◌, ℕ, ◌+◌, ◌≤◌, eqb, Bool, true, false, cond, List, [], ◌∷◌, length, slice_set, Option, Some, None, Result, Ok, Err, refl, ◌∙◌, arith}
 use Rattle.std.proofs.lemmas.List.{length-set, length-map}
 use Rattle.mach_base.specs.Machine.{Context, Memory, Machine}
 use Rattle.mach_base.specs.declared.event.Hart.{Hart}
@@ -10,7 +10,7 @@ use Rattle.rv_decode.specs.Fields.{Fields, decoded}
 use Rattle.trap_ipi.specs.Interrupt.{after_interrupt}
 use Rattle.trap_ipi.specs.Service.{is_known, service_number, argument, served, interrupted as made_pending, after_known, after_service}
 use Rattle.hart_step.specs.declared.class.Class.{Class}
-use Rattle.hart_step.specs.declared.class.Class.TheVariants.{Upper, UpperPc, Jump, JumpRegister, Branch, Load, Store, Immediate, Registers, Order, Reserve, Conditional, Atomic, Service, Breakpoint}
+use Rattle.hart_step.specs.declared.class.Class.TheVariants.{Store, Conditional, Atomic, Service}
 use Rattle.hart_step.specs.Operands.{class_of, register}
 use Rattle.hart_step.specs.Execution.{without_reservation, stored_granule, ended, holds_reservation, context_after, contexts_in, contexts_after, memory_in, memory_after}
 use Rattle.kdb_cmd.specs.declared.outcomes.Outcome.{Outcome}
@@ -20,7 +20,7 @@ use Rattle.kdb_cmd.specs.Line as debugger
 use Rattle.atom_mach.specs.declared.step.Mode.{Mode}
 use Rattle.atom_mach.specs.declared.step.Mode.TheVariants.{Free, Hold, Pass, Back, Leave, Over}
 use Rattle.atom_mach.specs.State.{State, context_at}
-use Rattle.atom_mach.specs.Step.{Done, fetched_at, executed, interrupted, gathered, line_state, with_line_state, line_said, line_text, with_read, entered, session_lines, after_line, mode_of_go}
+use Rattle.atom_mach.specs.Step.{Done, fetched_at, executed, interrupted, gathered, line_state, line_said, line_text, with_read, entered, session_lines, after_line, mode_of_go}
 use Rattle.atom_mach.specs.Modes.{owed}
 use Rattle.atom_mach.specs.Limits.{DebuggerLimits}
 

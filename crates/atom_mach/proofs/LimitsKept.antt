@@ -1,8 +1,7 @@
 -- Every run keeps the limits.
-use Rattle.std.proofs.Common.{◌≡◌, ℕ, ◌+◌, ◌^◌, ◌≤◌, ◌<◌, ◌==◌, ◌&&◌, ◌||◌, eqb, Bool, true, false, not, cond, List, [], ◌∷◌, ◌++◌, replicate, map, length, Option, Some, None, nat_lt, nat_le, option_map, refl, sym, ap, ◌∙◌, arith}
+use Rattle.std.proofs.Common.{◌≡◌, ℕ, ◌+◌, ◌^◌, ◌≤◌, ◌<◌, ◌==◌, ◌&&◌, ◌||◌, Bool, true, false, not, cond, List, [], ◌∷◌, length, Option, Some, None, nat_lt, option_map, refl, arith}
 use Rattle.std.proofs.lemmas.Bool.{false≢true, ltb-true}
 use Rattle.mach_base.specs.Texts.{has_bit}
-use Rattle.mach_base.specs.Machine.{Machine}
 use Rattle.mach_base.specs.declared.event.Hart.{Hart}
 use Rattle.mach_base.specs.declared.event.Reason.{Reason}
 use Rattle.mach_base.specs.declared.event.Ending.{Ending}
@@ -11,13 +10,13 @@ use Rattle.atom_mach.specs.declared.step.Mode.{Mode}
 use Rattle.atom_mach.specs.declared.step.Mode.TheVariants.{Free, Hold, Pass, Back, Leave, Over}
 use Rattle.atom_mach.specs.declared.step.AStep.{AStep}
 use Rattle.atom_mach.specs.declared.step.AStep.TheVariants.{Instr, Intr, Session, Enter, Line, End, Off}
-use Rattle.atom_mach.specs.State.{State, context_at}
-use Rattle.atom_mach.specs.Step.{Done, does, prefixed, executed, interrupted, runs, owes, mode_after, after_go, opening, opened_for, session, session_lines, line_said, with_read, entered, held_for, held_mode, held_line, closed, ended, is_free, is_true_ending, holds_at_end, is_hart, may_run, may_pass, may_take, line_state}
+use Rattle.atom_mach.specs.State.{State}
+use Rattle.atom_mach.specs.Step.{Done, does, prefixed, executed, interrupted, runs, owes, mode_after, after_go, opening, opened_for, session, session_lines, line_said, with_read, entered, held_for, held_mode, held_line, closed, ended, is_free, is_true_ending, holds_at_end, is_hart, may_run, may_pass, may_take}
 use Rattle.atom_mach.specs.Modes.{owed}
 use Rattle.atom_mach.specs.Run.{run_of, then_run}
-use Rattle.atom_mach.specs.Limits.{DebuggerLimits, WithinLimits, RunsKeepTheLimits}
+use Rattle.atom_mach.specs.Limits.{WithinLimits, RunsKeepTheLimits}
 use Rattle.atom_mach.proofs.Steps.{and_true}
-use Rattle.atom_mach.proofs.Kept.{LinesKeep, IsKept, IsKept-same, IsKept-then, executed_kept, interrupted_kept, entered_kept, line_kept, owed-low, IsSession, session_lines_kept}
+use Rattle.atom_mach.proofs.Kept.{LinesKeep, IsKept, IsKept-same, IsKept-then, executed_kept, interrupted_kept, entered_kept, line_kept, owed-low, session_lines_kept}
 
 taken : {A : Type 0} (b : Bool) (x d : A) → cond b (Some x) None ≡ Some d → (b ≡ true) × (x ≡ d)
 taken true x d e = (refl, cc)

@@ -1,5 +1,5 @@
 -- The start keeps the limits.
-use Rattle.std.proofs.Common.{◌≡◌, ℕ, ◌≤◌, Bool, true, false, cond, List, [], ◌∷◌, length, map, Option, Some, None, Result, Ok, Err, nat_le, refl, ap, arith, rules}
+use Rattle.std.proofs.Common.{◌≡◌, ℕ, ◌≤◌, Bool, true, false, cond, List, length, Option, Some, None, Result, Ok, Err, nat_le, refl, arith}
 use Rattle.std.proofs.lemmas.List.FromFn.{length-map-range_with_len}
 use Rattle.std.proofs.lemmas.Bool.{leb-true}
 use Rattle.mach_base.specs.Machine.{Symbol}
@@ -33,9 +33,9 @@ few_defaults = omega arith
 
 -- the start of a machine with 1 to 16 harts, from an image, symbols and a script that are right
 pub start_within :
-  (image : ImageRecord) (symbols : List Symbol) (script : List ℕ) (harts limit : ℕ) →
-  IsImage image → length symbols ≤ 500000 → checked_script script ≡ Ok tt → 1 ≤ harts → harts ≤ 16 → limit ≤ 4000000 →
-  WithinLimits (start_state image symbols script harts limit)
+    (image : ImageRecord) (symbols : List Symbol) (script : List ℕ) (harts limit : ℕ) →
+    IsImage image → length symbols ≤ 500000 → checked_script script ≡ Ok tt → 1 ≤ harts → harts ≤ 16 → limit ≤ 4000000 →
+    WithinLimits (start_state image symbols script harts limit)
 unfolding start_state
 start_within image symbols script harts limit right few checked some many below =
     let count = length-map-range_with_len (first_context image) 0 harts in

@@ -1,5 +1,5 @@
 -- The limits that every state of a run keeps.
-use Rattle.std.specs.Prelude.{◌≡◌, ℕ, ◌+◌, ◌≤◌, List, length, Some}
+use Rattle.std.specs.Prelude.{◌≡◌, ◌+◌, ◌≤◌, List, length, Some}
 use Rattle.std.specs.List.{AllByRecursion}
 use Rattle.mach_base.specs.Machine.{AreSegments}
 use Rattle.kdb_cmd.specs.LineState.{LineState}
