@@ -5,6 +5,7 @@ pub mod Turns
 pub mod LessWork
 pub mod Unmoved
 pub mod LateSessions
+pub mod RunsJoin
 pub mod Cuts
 pub mod Kept
 pub mod LimitsKept

@@ -121,6 +121,10 @@ RuledRunsAreRuns =
     (rule : State → Option AStep) (s : State) (steps : List AStep) (text : List ℕ) (last : State) →
     Runs rule s steps text last → run_of s steps ≡ Some (record { text = text; next = last })
 
+-- a run of two lists of steps is the run of the first, then that of the second
+abbrev pub RunsJoin : Type 0
+RunsJoin = (s : State) (before after : List AStep) → run_of s (before ++ after) ≡ then_run (run_of s before) (λ next. run_of next after)
+
 -- what a machine with one hart prints is the transcript of a run
 abbrev pub UniPrintsATranscript : Type 0
 UniPrintsATranscript =

@@ -1,7 +1,7 @@
 //! Laws of the atomic machine, each as the contract of a call that does nothing: whoever needs one calls it, or cites the
 //! statement that it names.
 ghost use Rattle.atom_mach.specs.Late.{LateSessionsKeepGatheredHarts, GatheredHartsStand};
-ghost use Rattle.atom_mach.specs.Run.{RuledRunsAreRuns, UniPrintsATranscript, WholeCutIsTheSession};
+ghost use Rattle.atom_mach.specs.Run.{RuledRunsAreRuns, RunsJoin, UniPrintsATranscript, WholeCutIsTheSession};
 
 /// While a session with late harts is open, no step of another hart changes the registers or the pc of a hart that the
 /// session holds.
@@ -20,6 +20,12 @@ pub fn gathered_harts_stand()
 #[tactic(auto, using(crate::proofs::Cuts::ruled_runs))]
 pub fn ruled_runs_are_runs()
     ensures { RuledRunsAreRuns }
+{}
+
+/// A run of two lists of steps is the run of the first, then that of the second.
+#[tactic(auto, using(crate::proofs::RunsJoin::runs_join))]
+pub fn runs_join()
+    ensures { RunsJoin }
 {}
 
 /// What a machine with one hart prints is the transcript of a run.

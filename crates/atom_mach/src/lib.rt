@@ -25,7 +25,7 @@ mod texts;
 
 pub use atom::Atom;
 pub use laws::{
-    gathered_harts_stand, late_sessions_keep_gathered_harts, ruled_runs_are_runs,
+    gathered_harts_stand, late_sessions_keep_gathered_harts, ruled_runs_are_runs, runs_join,
     uni_prints_a_transcript, whole_cut_is_the_session,
 };
 pub use script::{ScriptFault, check_script};
