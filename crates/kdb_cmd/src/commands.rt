@@ -8,16 +8,16 @@ ghost use Rattle.kdb_cmd.specs.Commands.{shown_text, command_answer, words_meani
 use crate::breakpoints::breakpoints_marked;
 use crate::changed_memory::mm;
 use crate::diagnostics::word_at;
-use crate::leaving::{go, ss_refusal};
 use crate::help::help;
+use crate::leaving::{go, ss_refusal};
 use crate::processors::{bt, btc, cpu};
 use crate::refusals::Refusal;
 use crate::registers::{rd, rm};
+use crate::session::Gathering;
 use crate::shown_memory::{md, md_count, mdr, mds};
 use crate::spellings::{Command, Showing, command_of};
 use crate::variables::{env, set};
 use crate::views::View;
-use crate::session::Gathering;
 use crate::{Diagnostic, Kdb, Outcome, Said};
 use hart_ctx::Context;
 use mach_base::{Hart, Peek, Text};
@@ -62,7 +62,7 @@ pub fn stay(text: Text) -> Said
 }
 
 /// A command with its words.
-#[tactic(auto, unfolding(crate::specs::Commands::command_answer))]
+#[tactic(auto, using(crate::proofs::Gathered::gathered_there), unfolding(crate::specs::Commands::command_answer))]
 fn command_answer<P: Peek>(
     alloc: Global,
     mem: &mut P,

@@ -24,9 +24,7 @@ fn is_end(line: &[u8]) -> bool
 pub fn is_reserved(name: &[u8]) -> bool
     ensures { result ≡ is_reserved name.now }
 {
-    command_of(name).is_some()
-        || name == b"defcmd".as_slice()
-        || name == b"endefcmd".as_slice()
+    command_of(name).is_some() || name == b"defcmd".as_slice() || name == b"endefcmd".as_slice()
 }
 
 fn macro_diagnostic(fault: MacroFault) -> Diagnostic

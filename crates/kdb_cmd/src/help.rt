@@ -1,4 +1,4 @@
-ghost use Rattle.std.specs.Prelude.{◌≡◌, IfOk};
+ghost use Rattle.std.specs.Prelude.{◌≡◌, ◌<◌, [], slice_index_or, IfOk};
 ghost use Rattle.kdb_cmd.specs.Refused.{Answers};
 ghost use Rattle.kdb_cmd.specs.Help.{usages, lines_text, help_text};
 
@@ -7,43 +7,50 @@ use crate::refusals::Refusal;
 use mach_base::{OutOfMemory, Text, push_bytes, push_newline};
 use std::alloc::Global;
 
-/// How each command is written.
-static USAGES: [&[u8]; 26] = [
-    b"md E [E]",
-    b"mdW E [E]",
-    b"mdWcN E",
-    b"mdr E E",
-    b"mds E [E]",
-    b"mm E E",
-    b"mmW E E",
-    b"rd",
-    b"rm REG E",
-    b"bp",
-    b"bp E",
-    b"bl",
-    b"bc N",
-    b"bd N",
-    b"be N",
-    b"ss",
-    b"go [E]",
-    b"bt",
-    b"btc",
-    b"cpu",
-    b"cpu N",
-    b"env",
-    b"set NAME=VALUE",
-    b"set NAME VALUE",
-    b"defcmd NAME [USAGE [HELP]]",
-    b"help",
-];
+/// The usage of a number.
+#[tactic(auto, unfolding(crate::specs::Help::usages))]
+fn usage(number: u8) -> &'static [u8]
+    requires { number < 26 }
+    ensures { result.now ≡ slice_index_or usages number [] }
+{
+    match number {
+        0 => b"md E [E]",
+        1 => b"mdW E [E]",
+        2 => b"mdWcN E",
+        3 => b"mdr E E",
+        4 => b"mds E [E]",
+        5 => b"mm E E",
+        6 => b"mmW E E",
+        7 => b"rd",
+        8 => b"rm REG E",
+        9 => b"bp",
+        10 => b"bp E",
+        11 => b"bl",
+        12 => b"bc N",
+        13 => b"bd N",
+        14 => b"be N",
+        15 => b"ss",
+        16 => b"go [E]",
+        17 => b"bt",
+        18 => b"btc",
+        19 => b"cpu",
+        20 => b"cpu N",
+        21 => b"env",
+        22 => b"set NAME=VALUE",
+        23 => b"set NAME VALUE",
+        24 => b"defcmd NAME [USAGE [HELP]]",
+        25 => b"help",
+        _ => unreachable!(),
+    }
+}
 
 /// The usages, each on a line.
 fn usage_lines(alloc: Global) -> Result<Text, OutOfMemory>
     ensures { IfOk result (λ text. text ≡ lines_text usages) }
 {
     let mut out = Vec::new(alloc);
-    for usage in &USAGES {
-        push_bytes(&mut out, usage)?;
+    for number in 0..26u8 {
+        push_bytes(&mut out, usage(number))?;
         push_newline(&mut out)?;
     }
     Ok(Text::from_vec(out))

@@ -10,7 +10,9 @@ use crate::views::View;
 use crate::{Diagnostic, Kdb, Outcome, Said};
 use hart_ctx::Context;
 use kdb_bt::show_frames;
-use mach_base::{OutOfMemory, Peek, Text, has_bit, parse_number, push_bytes, push_dec, push_newline};
+use mach_base::{
+    OutOfMemory, Peek, Text, has_bit, parse_number, push_bytes, push_dec, push_newline,
+};
 use std::alloc::Global;
 use sym_map::Symbols;
 
@@ -27,12 +29,13 @@ fn push_number(out: &mut Vec<u8>, gathered: u64, number: u8) -> Result<(), OutOf
     requires { number < 16 }
     ensures { OnOk result (out.new.items ≡ out.old.items ++ number_text gathered number out.old.items) }
 {
-    if has_bit(gathered, number) {
-        if !out.is_empty() {
-            push_bytes(out, b", ")?;
-        }
-        push_dec(out, u64::from(number))?;
+    if !has_bit(gathered, number) {
+        return Ok(());
     }
+    if !out.is_empty() {
+        push_bytes(out, b", ")?;
+    }
+    push_dec(out, u64::from(number))?;
     Ok(())
 }
 
@@ -161,6 +164,7 @@ fn push_frames<P: Peek>(out: &mut Vec<u8>, view: &View<P>, number: u8) -> Result
 }
 
 /// The frames of each processor in the session.
+#[tactic(auto, using(crate::proofs::Gathered::gathered_there))]
 fn all_frames<P: Peek>(alloc: Global, view: &View<P>, gathered: u64) -> Result<Text, OutOfMemory>
     requires { gathered < 2 ^ length view.now.harts }
     ensures { IfOk result (λ text. text ≡ frames_below gathered view.now 16) }
