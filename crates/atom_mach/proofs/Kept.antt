@@ -15,25 +15,13 @@ use Rattle.hart_step.specs.Operands.{class_of, register}
 use Rattle.hart_step.specs.Execution.{without_reservation, stored_granule, ended, holds_reservation, context_after, contexts_in, contexts_after, memory_in, memory_after}
 use Rattle.kdb_cmd.specs.declared.outcomes.Outcome.{Outcome}
 use Rattle.kdb_cmd.specs.declared.outcomes.Outcome.TheVariants.{Stay, Go, Step as StepOut}
-use Rattle.kdb_cmd.specs.LineState.{LineState}
-use Rattle.kdb_cmd.specs.Line as debugger
+use Rattle.kdb_cmd.specs.Limits.{WithinLimits as DebuggerLimits}
+use Rattle.kdb_cmd.proofs.Keeps.{line-keeps}
 use Rattle.atom_mach.specs.declared.step.Mode.{Mode}
 use Rattle.atom_mach.specs.declared.step.Mode.TheVariants.{Free, Hold, Pass, Back, Leave, Over}
 use Rattle.atom_mach.specs.State.{State, context_at}
 use Rattle.atom_mach.specs.Step.{Done, fetched_at, executed, interrupted, gathered, line_state, line_said, line_text, with_read, entered, session_lines, after_line, mode_of_go}
 use Rattle.atom_mach.specs.Modes.{owed}
-use Rattle.atom_mach.specs.Limits.{DebuggerLimits}
-
--- what a line of the debugger leaves as it was
-pub record Keeps (before : LineState) (after : LineState) : Type 0 where
-  pub segments : after.memory.segments ≡ before.memory.segments
-  pub symbols : after.symbols ≡ before.symbols
-  pub harts : length after.harts ≡ length before.harts
-  pub limits : DebuggerLimits before → DebuggerLimits after
-
--- every line does so
-abbrev pub LinesKeep : Type 0
-LinesKeep = (gathered entry : ℕ) (line : List ℕ) (s : LineState) → Keeps s (debugger.line_said gathered entry line s).state
 
 -- what every step leaves as it was: the number of harts, segments, symbols, the limit of steps, the number of the script's
 -- lines, and the debugger's limits
@@ -152,10 +140,10 @@ entered_kept s m = record {
   debugger = λ l. record { places = l.places; variables = l.variables; macros = l.macros; lines = l.lines };
 }
 
-pub line_kept : LinesKeep → (m : Hart) (late : ℕ) (line : List ℕ) (rest : List (List ℕ)) (s : Machine) → s.unread ≡ line ∷ rest → IsKept s (line_said m late line (with_read s rest)).machine
+pub line_kept : (m : Hart) (late : ℕ) (line : List ℕ) (rest : List (List ℕ)) (s : Machine) → s.unread ≡ line ∷ rest → IsKept s (line_said m late line (with_read s rest)).machine
 unfolding line_said
-line_kept keep m late line rest s e =
-    let k = keep (gathered (with_read s rest) late) m.0 line (line_state (with_read s rest)) in
+line_kept m late line rest s e =
+    let k = line-keeps (gathered (with_read s rest) late) m.0 line (line_state (with_read s rest)) in
     record {
       harts = k.harts;
       segments = k.segments;
@@ -189,9 +177,9 @@ after_line_kept Go text s t m rest kept steps read behind =
     record { kept = kept; steps = steps; pass = omega arith }
 after_line_kept StepOut text s t m rest kept steps read behind = record { kept = kept; steps = steps; pass = omega arith }
 
-pub session_lines_kept : LinesKeep → (m : Hart) (lines : List (List ℕ)) (s : Machine) → s.unread ≡ lines → IsSession s (session_lines m lines s).next
+pub session_lines_kept : (m : Hart) (lines : List (List ℕ)) (s : Machine) → s.unread ≡ lines → IsSession s (session_lines m lines s).next
 unfolding session_lines line_said
-session_lines_kept keep m [] s e = record { kept = IsKept-same s; steps = refl; pass = omega arith }
-session_lines_kept keep m (line ∷ rest) s e =
+session_lines_kept m [] s e = record { kept = IsKept-same s; steps = refl; pass = omega arith }
+session_lines_kept m (line ∷ rest) s e =
     after_line_kept (line_said m 0 line (with_read s rest)).outcome (line_text m 0 line (with_read s rest)) s (line_said m 0 line (with_read s rest)).machine m
-    (session_lines m rest (line_said m 0 line (with_read s rest)).machine) (line_kept keep m 0 line rest s e) refl refl (session_lines_kept keep m rest (line_said m 0 line (with_read s rest)).machine refl)
+    (session_lines m rest (line_said m 0 line (with_read s rest)).machine) (line_kept m 0 line rest s e) refl refl (session_lines_kept m rest (line_said m 0 line (with_read s rest)).machine refl)

@@ -16,7 +16,7 @@ use Rattle.atom_mach.specs.Modes.{owed}
 use Rattle.atom_mach.specs.Run.{run_of, then_run}
 use Rattle.atom_mach.specs.Limits.{WithinLimits, RunsKeepTheLimits}
 use Rattle.atom_mach.proofs.Steps.{and_true}
-use Rattle.atom_mach.proofs.Kept.{LinesKeep, IsKept, IsKept-same, IsKept-then, executed_kept, interrupted_kept, entered_kept, line_kept, owed-low, session_lines_kept}
+use Rattle.atom_mach.proofs.Kept.{IsKept, IsKept-same, IsKept-then, executed_kept, interrupted_kept, entered_kept, line_kept, owed-low, session_lines_kept}
 
 taken : {A : Type 0} (b : Bool) (x d : A) → cond b (Some x) None ≡ Some d → (b ≡ true) × (x ≡ d)
 taken true x d e = (refl, cc)
@@ -125,10 +125,10 @@ within-Intr s h d w e =
 
 -- Sessions.
 
-after_session : LinesKeep → (s : State) (m : Hart) (reason : Reason) → WithinLimits s → WithinLimits (session s.machine m reason).next
+after_session : (s : State) (m : Hart) (reason : Reason) → WithinLimits s → WithinLimits (session s.machine m reason).next
 unfolding session
-after_session keep s m reason w =
-    let after = session_lines_kept keep m s.machine.unread (entered s.machine m.0) refl in
+after_session s m reason w =
+    let after = session_lines_kept m s.machine.unread (entered s.machine m.0) refl in
     let steps_before = w.steps in
     let steps = after.steps in
     let pass = after.pass in
@@ -136,15 +136,15 @@ after_session keep s m reason w =
     within s (session_lines m s.machine.unread (entered s.machine m.0)).next w
     (IsKept-then s.machine (entered s.machine m.0) _ (entered_kept s.machine m.0) after.kept) (omega arith) (omega arith)
 
-within-Session : LinesKeep → (s : State) (m : Hart) (d : Done) → WithinLimits s → does s (Session m) ≡ Some d → WithinLimits d.next
+within-Session : (s : State) (m : Hart) (d : Done) → WithinLimits s → does s (Session m) ≡ Some d → WithinLimits d.next
 unfolding does
-within-Session keep s m d w e = by_reason (is_hart s.machine m.0) (opening s.mode s.machine m.0 0) e
+within-Session s m d w e = by_reason (is_hart s.machine m.0) (opening s.mode s.machine m.0 0) e
   where
     by_reason : (b : Bool) (r : Option Reason) → cond b (opened_for s m r) None ≡ Some d → WithinLimits d.next
     by_reason false r f = absurd (cc)
     by_reason true None f = absurd (cc)
     by_reason true (Some reason) f =
-        let same : session s.machine m reason ≡ d = cc in rw (← same) (after_session keep s m reason w)
+        let same : session s.machine m reason ≡ d = cc in rw (← same) (after_session s m reason w)
 
 after_entering : (s : State) (m : Hart) (late : ℕ) → WithinLimits s → WithinLimits (record { machine = entered s.machine m.0; mode = Hold m late })
 after_entering s m late w =
@@ -161,24 +161,24 @@ within-Enter s m late d w e =
     by_reason true None f = absurd (cc)
     by_reason true (Some reason) f = let t = taken true _ d f in rw (← t.1) (after_entering s m late w)
 
-after_held_line : LinesKeep → (s : State) (m : Hart) (late : ℕ) (line : List ℕ) (rest : List (List ℕ)) (mode : Mode) → s.mode ≡ Hold m late → s.machine.unread ≡ line ∷ rest → WithinLimits s → WithinLimits (record { machine = (line_said m late line (with_read s.machine rest)).machine; mode = mode })
+after_held_line : (s : State) (m : Hart) (late : ℕ) (line : List ℕ) (rest : List (List ℕ)) (mode : Mode) → s.mode ≡ Hold m late → s.machine.unread ≡ line ∷ rest → WithinLimits s → WithinLimits (record { machine = (line_said m late line (with_read s.machine rest)).machine; mode = mode })
 unfolding line_said
-after_held_line keep s m late line rest mode holds is w =
+after_held_line s m late line rest mode holds is w =
     let steps = w.steps in
     let low = owed-low mode in
     within s (record { machine = (line_said m late line (with_read s.machine rest)).machine; mode = mode }) w
-    (line_kept keep m late line rest s.machine is) (omega arith) (omega arith)
+    (line_kept m late line rest s.machine is) (omega arith) (omega arith)
 
-within-Line : LinesKeep → (s : State) (d : Done) → WithinLimits s → does s Line ≡ Some d → WithinLimits d.next
+within-Line : (s : State) (d : Done) → WithinLimits s → does s Line ≡ Some d → WithinLimits d.next
 unfolding does
-within-Line keep s d w e = by_mode s.mode s.machine.unread refl refl e
+within-Line s d w e = by_mode s.mode s.machine.unread refl refl e
   where
     by_mode : (mode : Mode) (unread : List (List ℕ)) → s.mode ≡ mode → s.machine.unread ≡ unread → held_line mode unread s.machine ≡ Some d → WithinLimits d.next
     by_mode Free unread p q f = absurd (cc)
     by_mode (Hold m late) [] p q f = absurd (cc)
     by_mode (Hold m late) (line ∷ rest) p q f =
         let t = taken true _ d f in
-        rw (← t.1) (after_held_line keep s m late line rest (held_mode (line_said m late line (with_read s.machine rest)).outcome (line_said m late line (with_read s.machine rest)).machine m late) p q w)
+        rw (← t.1) (after_held_line s m late line rest (held_mode (line_said m late line (with_read s.machine rest)).outcome (line_said m late line (with_read s.machine rest)).machine m late) p q w)
     by_mode (Pass m late again) unread p q f = absurd (cc)
     by_mode (Back m late) unread p q f = absurd (cc)
     by_mode (Leave m late) unread p q f = absurd (cc)
@@ -216,20 +216,20 @@ within-Off s StepLimit d w e = within-ended s StepLimit d w e
 within-Off s PlanEnd d w e = absurd (cc)
 
 -- an allowed step keeps the limits
-pub step_within : LinesKeep → (s : State) (step : AStep) (d : Done) → WithinLimits s → does s step ≡ Some d → WithinLimits d.next
-step_within keep s (Instr h) d w e = within-Instr s h d w e
-step_within keep s (Intr h) d w e = within-Intr s h d w e
-step_within keep s (Session m) d w e = within-Session keep s m d w e
-step_within keep s (Enter m late) d w e = within-Enter s m late d w e
-step_within keep s Line d w e = within-Line keep s d w e
-step_within keep s End d w e = within-End s d w e
-step_within keep s (Off ending) d w e = within-Off s ending d w e
+pub step_within : (s : State) (step : AStep) (d : Done) → WithinLimits s → does s step ≡ Some d → WithinLimits d.next
+step_within s (Instr h) d w e = within-Instr s h d w e
+step_within s (Intr h) d w e = within-Intr s h d w e
+step_within s (Session m) d w e = within-Session s m d w e
+step_within s (Enter m late) d w e = within-Enter s m late d w e
+step_within s Line d w e = within-Line s d w e
+step_within s End d w e = within-End s d w e
+step_within s (Off ending) d w e = within-Off s ending d w e
 
 -- and so does a run
-pub run_within : LinesKeep → RunsKeepTheLimits
+pub run_within : RunsKeepTheLimits
 unfolding run_of
-run_within keep s [] d w e = let t = taken true _ d e in rw (← t.1) w
-run_within keep s (step ∷ steps) d w e = by_step (λ next v f. run_within keep next steps v f) (does s step) refl e
+run_within s [] d w e = let t = taken true _ d e in rw (← t.1) w
+run_within s (step ∷ steps) d w e = by_step (λ next v f. run_within next steps v f) (does s step) refl e
   where
     by_rest : (text : List ℕ) (o : Option Done) → ((v : Done) → o ≡ Some v → WithinLimits v.next) → option_map (prefixed text) o ≡ Some d → WithinLimits d.next
     by_rest text None behind f = absurd (cc)
@@ -237,4 +237,4 @@ run_within keep s (step ∷ steps) d w e = by_step (λ next v f. run_within keep
 
     by_step : ((next : State) (v : Done) → WithinLimits next → run_of next steps ≡ Some v → WithinLimits v.next) → (o : Option Done) → does s step ≡ o → then_run o (λ next. run_of next steps) ≡ Some d → WithinLimits d.next
     by_step behind None p f = absurd (cc)
-    by_step behind (Some first) p f = by_rest first.text (run_of first.next steps) (λ v g. behind first.next v (step_within keep s step first w p) g) f
+    by_step behind (Some first) p f = by_rest first.text (run_of first.next steps) (λ v g. behind first.next v (step_within s step first w p) g) f

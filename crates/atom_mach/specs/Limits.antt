@@ -1,20 +1,12 @@
 -- The limits that every state of a run keeps.
 use Rattle.std.specs.Prelude.{◌≡◌, ◌+◌, ◌≤◌, List, length, Some}
-use Rattle.std.specs.List.{AllByRecursion}
 use Rattle.mach_base.specs.Machine.{AreSegments}
-use Rattle.kdb_cmd.specs.LineState.{LineState}
+use Rattle.kdb_cmd.specs.Limits.{WithinLimits as DebuggerLimits}
 use Rattle.atom_mach.specs.declared.step.AStep.{AStep}
 use Rattle.atom_mach.specs.State.{State}
 use Rattle.atom_mach.specs.Step.{Done, line_state}
 use Rattle.atom_mach.specs.Modes.{owed}
 use Rattle.atom_mach.specs.Run.{run_of}
-
--- there are 16 breakpoint places, at most 31 variables, and at most 32 macros of at most 32 lines each
-pub record DebuggerLimits (s : LineState) : Type 0 where
-  pub places : length s.places ≡ 16
-  pub variables : length s.variables ≤ 31
-  pub macros : length s.macros ≤ 32
-  pub lines : AllByRecursion (λ m. length m.lines ≤ 32) s.macros
 
 -- There are 1 to 16 harts, segments as an image may have them, at most 500,000 symbols, and what the debugger may hold; the
 -- script has at most 4,096 lines, and the limit of steps is at most 4,000,000. A single-step pass is owed only once a line

@@ -1,6 +1,7 @@
 //! Laws of the atomic machine, each as the contract of a call that does nothing: whoever needs one calls it, or cites the
 //! statement that it names.
 ghost use Rattle.atom_mach.specs.Late.{LateSessionsKeepGatheredHarts, GatheredHartsStand};
+ghost use Rattle.atom_mach.specs.Limits.{RunsKeepTheLimits};
 ghost use Rattle.atom_mach.specs.Run.{RuledRunsAreRuns, RunsJoin, UniPrintsATranscript, WholeCutIsTheSession};
 
 /// While a session with late harts is open, no step of another hart changes the registers or the pc of a hart that the
@@ -36,6 +37,11 @@ pub fn uni_prints_a_transcript()
 
 /// A session that doesn't end the run is its own cut, after the lines that it reads.
 #[tactic(auto, using(crate::proofs::Cuts::whole_session))]
-pub fn whole_cut_is_the_session()
+pub fn a_whole_cut_is_the_session()
     ensures { WholeCutIsTheSession }
+{}
+
+/// Every run from a state within the limits stays within them.
+pub fn runs_keep_the_limits()
+    ensures { RunsKeepTheLimits }
 {}

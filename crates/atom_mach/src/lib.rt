@@ -25,8 +25,8 @@ mod texts;
 
 pub use atom::Atom;
 pub use laws::{
-    gathered_harts_stand, late_sessions_keep_gathered_harts, ruled_runs_are_runs, runs_join,
-    uni_prints_a_transcript, whole_cut_is_the_session,
+    a_whole_cut_is_the_session, gathered_harts_stand, late_sessions_keep_gathered_harts,
+    ruled_runs_are_runs, runs_join, runs_keep_the_limits, uni_prints_a_transcript,
 };
 pub use script::{ScriptFault, check_script};
 pub use step::{AStep, Mode, StepFault};
