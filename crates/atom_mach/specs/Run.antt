@@ -88,7 +88,7 @@ cut_for s m count None = None
 cut_for s m count (Some reason) =
     option_map (before_cut (banner_text 0 m.0 reason (context_at s.machine m.0).pc)) (cut_lines m count s.machine.unread (entered s.machine m.0))
 
--- A session of m with nobody late, cut off after so many lines; None where m may not open it.
+-- A session of m with nobody late, cut off after so many lines; None where m may not open it, or it has no such cut.
 unfoldable pub cut_session : State → Hart → ℕ → Option Cut
 cut_session s m count = if is_hart s.machine m.0 then cut_for s m count (opening s.mode s.machine m.0 0) else None
 
