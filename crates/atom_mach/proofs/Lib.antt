@@ -6,3 +6,10 @@ pub mod FirstSteps
 pub mod LessWork
 pub mod Joined
 pub mod Masks
+pub mod Unmoved
+pub mod LateSessions
+pub mod RunsJoin
+pub mod Cuts
+pub mod Kept
+pub mod LimitsKept
+pub mod StartWithin

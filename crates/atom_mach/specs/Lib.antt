@@ -8,3 +8,5 @@ pub mod Tried
 pub mod Core
 pub mod Work
 pub mod StateCode
+pub mod Late
+pub mod Limits

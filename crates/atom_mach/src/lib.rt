@@ -18,6 +18,7 @@
 
 mod atom;
 mod endings;
+mod laws;
 mod machine;
 mod moves;
 mod script;
@@ -27,6 +28,10 @@ mod texts;
 mod turns;
 
 pub use atom::Atom;
+pub use laws::{
+    a_whole_cut_is_the_session, gathered_harts_stand, late_sessions_keep_gathered_harts,
+    ruled_runs_are_runs, runs_join, runs_keep_the_limits, uni_prints_a_transcript,
+};
 pub use script::{ScriptFault, check_script};
 pub use step::{AStep, Mode, StepFault};
 pub use texts::push_ending_line;

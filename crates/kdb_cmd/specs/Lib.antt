@@ -12,9 +12,12 @@ pub mod Registers
 pub mod Variables
 pub mod Leaving
 pub mod Breakpoints
+pub mod Processors
+pub mod Help
 pub mod Commands
 pub mod Frames
 pub mod Naming
 pub mod Macros
 pub mod MacroLines
 pub mod Line
+pub mod Limits

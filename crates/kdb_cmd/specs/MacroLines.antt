@@ -8,6 +8,7 @@ use Rattle.kdb_cmd.specs.declared.outcomes.Outcome.{Outcome}
 use Rattle.kdb_cmd.specs.declared.outcomes.Outcome.TheVariants.{Stay, Go, Step}
 use Rattle.kdb_cmd.specs.declared.naming.Called.{Called}
 use Rattle.kdb_cmd.specs.declared.naming.Called.TheVariants.{Command, Define, Macro}
+use Rattle.kdb_cmd.specs.declared.session.Gathering.{Gathering}
 use Rattle.kdb_cmd.specs.LineState.{LineState, Answer}
 use Rattle.kdb_cmd.specs.Commands.{showing, words_meaning, answer_or_line}
 use Rattle.kdb_cmd.specs.Naming.{named_by}
@@ -24,25 +25,25 @@ unless_nested Define meaning = Err NestedMacro
 unless_nested (Macro number) meaning = Err NestedMacro
 
 -- what the words of a macro's line do: it calls and begins no macro
-unfoldable pub inner_meaning : ℕ → List (List ℕ) → LineState → Result Answer Diagnostic
-inner_meaning entry words s = unless_nested (named_by s.macros words) (words_meaning entry words s)
+unfoldable pub inner_meaning : Gathering → List (List ℕ) → LineState → Result Answer Diagnostic
+inner_meaning g words s = unless_nested (named_by s.macros words) (words_meaning g words s)
 
 -- what they print and do
-unfoldable pub inner_answer : ℕ → List (List ℕ) → LineState → Answer
-inner_answer entry words s = answer_or_line words s (inner_meaning entry words s)
+unfoldable pub inner_answer : Gathering → List (List ℕ) → LineState → Answer
+inner_answer g words s = answer_or_line words s (inner_meaning g words s)
 
 -- what a line of a macro prints and does
-unfoldable pub inner_line : ℕ → List ℕ → LineState → Answer
-inner_line entry line s = framed line s (inner_answer entry (command_words line) s)
+unfoldable pub inner_line : Gathering → List ℕ → LineState → Answer
+inner_line g line s = framed line s (inner_answer g (command_words line) s)
 
 -- an answer, and behind it what follows where the session goes on
 abbrev pub joined : Answer → Answer → Answer
 joined first rest = if stays first.outcome then record rest { output = first.output ++ rest.output } else first
 
 -- the lines in order, until one leaves
-abbrev pub macro_answer : ℕ → List (List ℕ) → LineState → Answer
-macro_answer entry [] s = showing s []
-macro_answer entry (line ∷ rest) s = joined (inner_line entry line s) (macro_answer entry rest (inner_line entry line s).state)
+abbrev pub macro_answer : Gathering → List (List ℕ) → LineState → Answer
+macro_answer g [] s = showing s []
+macro_answer g (line ∷ rest) s = joined (inner_line g line s) (macro_answer g rest (inner_line g line s).state)
 
 -- the lines of a macro; none where there is no macro
 abbrev pub lines_in : Option MacroRecord → List (List ℕ)

@@ -16,10 +16,10 @@ is_end [] = false
 is_end (word ∷ []) = bytes_eq word (codes "endefcmd")
 is_end (word ∷ next ∷ rest) = false
 
--- whether a command has the name, also one that isn't built yet
+-- whether a command has the name
 abbrev pub is_reserved : List ℕ → Bool
 is_reserved name =
-    is_some (command_of name) || bytes_eq name (codes "defcmd") || bytes_eq name (codes "endefcmd") || bytes_eq name (codes "bt") || bytes_eq name (codes "btc") || bytes_eq name (codes "cpu") || bytes_eq name (codes "help")
+    is_some (command_of name) || bytes_eq name (codes "defcmd") || bytes_eq name (codes "endefcmd")
 
 -- the diagnostic of a macro that isn't begun, or a line that isn't kept; want of memory has none
 abbrev pub macro_diagnostic : MacroFault → Diagnostic

@@ -6,12 +6,12 @@ use Rattle.std.specs.Str.{bytes_eq}
 use Rattle.mach_base.specs.Number.{number_of}
 use Rattle.mach_base.specs.declared.number.NumFault.{NumFault}
 use Rattle.kdb_cmd.specs.declared.spellings.Command.{Command}
-use Rattle.kdb_cmd.specs.declared.spellings.Command.TheVariants.{Show, Mm, Rm, Set, Break, Ss, Go}
+use Rattle.kdb_cmd.specs.declared.spellings.Command.TheVariants.{Show, Mm, Rm, Set, Break, Cpu, Ss, Go}
 use Rattle.kdb_cmd.specs.declared.spellings.Breaking.{Breaking}
 use Rattle.kdb_cmd.specs.declared.spellings.Breaking.TheVariants.{Bp, Bl, Mark}
 use Rattle.kdb_cmd.specs.declared.spellings.Marking.TheVariants.{Clear, Disable, Enable}
 use Rattle.kdb_cmd.specs.declared.spellings.Showing.{Showing}
-use Rattle.kdb_cmd.specs.declared.spellings.Showing.TheVariants.{Md, MdCount, Mdr, Mds, Rd, Env}
+use Rattle.kdb_cmd.specs.declared.spellings.Showing.TheVariants.{Md, MdCount, Mdr, Mds, Rd, Env, Bt, Btc, Help}
 use Rattle.kdb_mem.specs.Range.{IsWidth}
 
 -- the width that is spelt, if one is, is a width
@@ -23,6 +23,9 @@ IsShowing Mdr = Unit {0}
 IsShowing Mds = Unit {0}
 IsShowing Rd = Unit {0}
 IsShowing Env = Unit {0}
+IsShowing Bt = Unit {0}
+IsShowing Btc = Unit {0}
+IsShowing Help = Unit {0}
 
 abbrev pub IsCommand : Command → Type 0
 IsCommand (Show showing) = IsShowing showing
@@ -31,6 +34,7 @@ IsCommand (Mm (Some width)) = IsWidth width
 IsCommand Rm = Unit {0}
 IsCommand Set = Unit {0}
 IsCommand (Break breaking) = Unit {0}
+IsCommand Cpu = Unit {0}
 IsCommand Ss = Unit {0}
 IsCommand Go = Unit {0}
 
@@ -94,6 +98,10 @@ named word =
     else if bytes_eq word (codes "set") then Some Set
     else if bytes_eq word (codes "ss") then Some Ss
     else if bytes_eq word (codes "go") then Some Go
+    else if bytes_eq word (codes "bt") then Some (Show Bt)
+    else if bytes_eq word (codes "btc") then Some (Show Btc)
+    else if bytes_eq word (codes "cpu") then Some Cpu
+    else if bytes_eq word (codes "help") then Some (Show Help)
     else None
 
 -- the commands about breakpoints

@@ -1,4 +1,5 @@
-ghost use Rattle.std.specs.Prelude.{◌≡◌, ◌<◌, length};
+ghost use Rattle.std.specs.Prelude.{◌≡◌, ◌<◌, ◌^◌, true, length};
+ghost use Rattle.mach_base.specs.Texts.{has_bit};
 ghost use Rattle.kdb_cmd.specs.State.{state_of};
 ghost use Rattle.kdb_cmd.specs.Refused.{Answers, Changes};
 ghost use Rattle.kdb_cmd.specs.Spellings.{IsShowing, IsCommand};
@@ -7,9 +8,12 @@ ghost use Rattle.kdb_cmd.specs.Commands.{shown_text, command_answer, words_meani
 use crate::breakpoints::breakpoints_marked;
 use crate::changed_memory::mm;
 use crate::diagnostics::word_at;
+use crate::help::help;
 use crate::leaving::{go, ss_refusal};
+use crate::processors::{bt, btc, cpu};
 use crate::refusals::Refusal;
 use crate::registers::{rd, rm};
+use crate::session::Gathering;
 use crate::shown_memory::{md, md_count, mdr, mds};
 use crate::spellings::{Command, Showing, command_of};
 use crate::variables::{env, set};
@@ -25,11 +29,13 @@ use sym_map::Symbols;
 fn shown_text<P: Peek>(
     alloc: Global,
     view: &View<P>,
+    gathered: u64,
     showing: Showing,
     words: &[Text],
 ) -> Result<Text, Refusal>
-    requires { IsShowing showing }
-    ensures { Answers result (shown_text view.now showing words.now) }
+    requires showing { IsShowing showing }
+    requires gathered { gathered < 2 ^ length view.now.harts }
+    ensures { Answers result (shown_text gathered view.now showing words.now) }
 {
     match showing {
         Showing::Md(width) => md(alloc, view, width, words),
@@ -38,6 +44,9 @@ fn shown_text<P: Peek>(
         Showing::Mds => mds(alloc, view, words),
         Showing::Rd => rd(alloc, view, words),
         Showing::Env => env(alloc, view, words),
+        Showing::Bt => bt(alloc, view, words),
+        Showing::Btc => btc(alloc, view, gathered, words),
+        Showing::Help => help(alloc, words),
     }
 }
 
@@ -53,21 +62,24 @@ pub fn stay(text: Text) -> Said
 }
 
 /// A command with its words.
-#[tactic(auto, unfolding(crate::specs::Commands::command_answer))]
+#[tactic(auto, using(crate::proofs::Gathered::gathered_there), unfolding(crate::specs::Commands::command_answer))]
 fn command_answer<P: Peek>(
     alloc: Global,
     mem: &mut P,
     ctxs: &mut [Context],
     kdb: &mut Kdb,
     names: &Symbols,
-    entry: Hart,
+    gathering: Gathering,
     command: Command,
     words: &[Text],
 ) -> Result<Said, Refusal>
-    requires current { kdb.old.current < length ctxs.old }
+    requires gathered { gathering.gathered < 2 ^ length ctxs.old }
+    requires current_there_before { kdb.old.current < length ctxs.old }
+    requires current_before { has_bit gathering.gathered kdb.old.current ≡ true }
     requires command { IsCommand command }
-    ensures answer { Changes result (state_of ctxs.old (P.memory mem.old) kdb.old names.now) (state_of ctxs.new (P.memory mem.new) kdb.new names.now) (command_answer entry.0 command (state_of ctxs.old (P.memory mem.old) kdb.old names.now) words.now) }
-    ensures current { kdb.new.current ≡ kdb.old.current }
+    ensures answer { Changes result (state_of ctxs.old (P.memory mem.old) kdb.old names.now) (state_of ctxs.new (P.memory mem.new) kdb.new names.now) (command_answer gathering command (state_of ctxs.old (P.memory mem.old) kdb.old names.now) words.now) }
+    ensures current_there { kdb.new.current < length ctxs.new }
+    ensures current { has_bit gathering.gathered kdb.new.current ≡ true }
 {
     match command {
         Command::Show(showing) => {
@@ -77,7 +89,7 @@ fn command_answer<P: Peek>(
                 kdb,
                 names,
             };
-            let text = shown_text(alloc, &view, showing, words)?;
+            let text = shown_text(alloc, &view, gathering.gathered, showing, words)?;
             Ok(stay(text))
         }
         Command::Mm(width) => mm(alloc, mem, ctxs, kdb, names, width, words),
@@ -97,6 +109,7 @@ fn command_answer<P: Peek>(
             kdb.breaks = marked.breaks;
             Ok(stay(marked.text))
         }
+        Command::Cpu => cpu(alloc, mem, ctxs, kdb, names, gathering.gathered, words),
         Command::Ss => {
             let view = View {
                 mem,
@@ -104,7 +117,7 @@ fn command_answer<P: Peek>(
                 kdb,
                 names,
             };
-            match ss_refusal(&view, entry, words) {
+            match ss_refusal(&view, Hart(gathering.entry), words) {
                 Some(diagnostic) => Err(Refusal::Diagnosed(diagnostic)),
                 None => Ok(Said {
                     text: Text::from_vec(Vec::new(alloc)),
@@ -112,7 +125,7 @@ fn command_answer<P: Peek>(
                 }),
             }
         }
-        Command::Go => go(alloc, mem, ctxs, kdb, names, entry, words),
+        Command::Go => go(alloc, mem, ctxs, kdb, names, Hart(gathering.entry), words),
     }
 }
 
@@ -124,18 +137,21 @@ pub fn words_meaning<P: Peek>(
     ctxs: &mut [Context],
     kdb: &mut Kdb,
     names: &Symbols,
-    entry: Hart,
+    gathering: Gathering,
     words: &[Text],
 ) -> Result<Said, Refusal>
-    requires { kdb.old.current < length ctxs.old }
-    ensures answer { Changes result (state_of ctxs.old (P.memory mem.old) kdb.old names.now) (state_of ctxs.new (P.memory mem.new) kdb.new names.now) (words_meaning entry.0 words.now (state_of ctxs.old (P.memory mem.old) kdb.old names.now)) }
-    ensures current { kdb.new.current ≡ kdb.old.current }
+    requires gathered { gathering.gathered < 2 ^ length ctxs.old }
+    requires current_there_before { kdb.old.current < length ctxs.old }
+    requires current_before { has_bit gathering.gathered kdb.old.current ≡ true }
+    ensures answer { Changes result (state_of ctxs.old (P.memory mem.old) kdb.old names.now) (state_of ctxs.new (P.memory mem.new) kdb.new names.now) (words_meaning gathering words.now (state_of ctxs.old (P.memory mem.old) kdb.old names.now)) }
+    ensures current_there { kdb.new.current < length ctxs.new }
+    ensures current { has_bit gathering.gathered kdb.new.current ≡ true }
 {
     if words.is_empty() {
         return Ok(stay(Text::from_vec(Vec::new(alloc))));
     }
     match command_of(word_at(words, 0)) {
-        Some(command) => command_answer(alloc, mem, ctxs, kdb, names, entry, command, words),
+        Some(command) => command_answer(alloc, mem, ctxs, kdb, names, gathering, command, words),
         None => Err(Refusal::Diagnosed(Diagnostic::UnknownCommand)),
     }
 }

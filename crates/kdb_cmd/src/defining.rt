@@ -20,17 +20,11 @@ fn is_end(line: &[u8]) -> bool
     }
 }
 
-/// Whether a command has the name, also one that isn't built yet.
+/// Whether a command has the name.
 pub fn is_reserved(name: &[u8]) -> bool
     ensures { result ≡ is_reserved name.now }
 {
-    command_of(name).is_some()
-        || name == b"defcmd".as_slice()
-        || name == b"endefcmd".as_slice()
-        || name == b"bt".as_slice()
-        || name == b"btc".as_slice()
-        || name == b"cpu".as_slice()
-        || name == b"help".as_slice()
+    command_of(name).is_some() || name == b"defcmd".as_slice() || name == b"endefcmd".as_slice()
 }
 
 fn macro_diagnostic(fault: MacroFault) -> Diagnostic

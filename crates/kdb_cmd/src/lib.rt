@@ -5,6 +5,8 @@
 //! - A line is *refused* by a *diagnostic*, the first that holds, which is printed and changes nothing.
 //! - The *state* of a line is what it sees and may change: the harts' contexts, memory, breakpoints, variables, macros,
 //!   symbols, and the number of the *current* processor, which the commands are about.
+//! - The *gathered* processors are those in the session, of which it was *entered* on one; any of them can become the
+//!   current one.
 //! - An *answer* is what a line prints, the state that it leaves, and the *outcome*: whether the session goes on.
 //!
 //! It joins the debugger's crates over any memory that is a `Peek`; the machine's sessions stand on it.
@@ -18,11 +20,13 @@ mod defining;
 mod diagnostics;
 mod filtered;
 mod frames;
+mod help;
 mod leaving;
 mod lines;
 mod macro_lines;
 mod naming;
 mod outcomes;
+mod processors;
 mod refusals;
 mod registers;
 mod session;

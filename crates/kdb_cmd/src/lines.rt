@@ -11,6 +11,7 @@ use crate::frames::{through, uncut};
 use crate::macro_lines::run_macro;
 use crate::naming::{Called, named_by};
 use crate::refusals::Refusal;
+use crate::session::Gathering;
 use crate::{Diagnostic, Kdb, Said};
 use hart_ctx::Context;
 use kdb_lex::{LexFault, Lexed, lex};
@@ -26,17 +27,20 @@ fn outer_meaning<P: Peek>(
     ctxs: &mut [Context],
     kdb: &mut Kdb,
     names: &Symbols,
-    entry: Hart,
+    gathering: Gathering,
     called: Called,
     words: &[Text],
 ) -> Result<Said, Refusal>
-    requires current { kdb.old.current < length ctxs.old }
+    requires gathered { gathering.gathered < 2 ^ length ctxs.old }
+    requires current_there_before { kdb.old.current < length ctxs.old }
+    requires current_before { has_bit gathering.gathered kdb.old.current ≡ true }
     requires defining { kdb.old.macros.defining ≡ false }
-    ensures answer { Changes result (state_of ctxs.old (P.memory mem.old) kdb.old names.now) (state_of ctxs.new (P.memory mem.new) kdb.new names.now) (outer_meaning entry.0 called words.now (state_of ctxs.old (P.memory mem.old) kdb.old names.now)) }
-    ensures current { kdb.new.current ≡ kdb.old.current }
+    ensures answer { Changes result (state_of ctxs.old (P.memory mem.old) kdb.old names.now) (state_of ctxs.new (P.memory mem.new) kdb.new names.now) (outer_meaning gathering called words.now (state_of ctxs.old (P.memory mem.old) kdb.old names.now)) }
+    ensures current_there { kdb.new.current < length ctxs.new }
+    ensures current { has_bit gathering.gathered kdb.new.current ≡ true }
 {
     match called {
-        Called::Command => words_meaning(alloc, mem, ctxs, kdb, names, entry, words),
+        Called::Command => words_meaning(alloc, mem, ctxs, kdb, names, gathering, words),
         Called::Define => {
             begin(&mut kdb.macros, words)?;
             Ok(stay(Text::from_vec(Vec::new(alloc))))
@@ -53,16 +57,19 @@ fn outer_answer<P: Peek>(
     ctxs: &mut [Context],
     kdb: &mut Kdb,
     names: &Symbols,
-    entry: Hart,
+    gathering: Gathering,
     called: Called,
     words: &[Text],
 ) -> Result<Said, OutOfMemory>
-    requires current { kdb.old.current < length ctxs.old }
+    requires gathered { gathering.gathered < 2 ^ length ctxs.old }
+    requires current_there_before { kdb.old.current < length ctxs.old }
+    requires current_before { has_bit gathering.gathered kdb.old.current ≡ true }
     requires defining { kdb.old.macros.defining ≡ false }
-    ensures answer { IfOk result (λ said. outer_answer entry.0 called words.now (state_of ctxs.old (P.memory mem.old) kdb.old names.now) ≡ record { output = said.text; state = state_of ctxs.new (P.memory mem.new) kdb.new names.now; outcome = said.outcome }) }
-    ensures current { kdb.new.current ≡ kdb.old.current }
+    ensures answer { IfOk result (λ said. outer_answer gathering called words.now (state_of ctxs.old (P.memory mem.old) kdb.old names.now) ≡ record { output = said.text; state = state_of ctxs.new (P.memory mem.new) kdb.new names.now; outcome = said.outcome }) }
+    ensures current_there { kdb.new.current < length ctxs.new }
+    ensures current { has_bit gathering.gathered kdb.new.current ≡ true }
 {
-    match outer_meaning(alloc, mem, ctxs, kdb, names, entry, called, words) {
+    match outer_meaning(alloc, mem, ctxs, kdb, names, gathering, called, words) {
         Ok(said) => Ok(said),
         Err(Refusal::Diagnosed(diagnostic)) => {
             let text = diagnosed(alloc, words, diagnostic)?;
@@ -90,18 +97,21 @@ fn words_answer<P: Peek>(
     ctxs: &mut [Context],
     kdb: &mut Kdb,
     names: &Symbols,
-    entry: Hart,
+    gathering: Gathering,
     words: &[Text],
 ) -> Result<Said, OutOfMemory>
-    requires current { kdb.old.current < length ctxs.old }
+    requires gathered { gathering.gathered < 2 ^ length ctxs.old }
+    requires current_there_before { kdb.old.current < length ctxs.old }
+    requires current_before { has_bit gathering.gathered kdb.old.current ≡ true }
     requires defining { kdb.old.macros.defining ≡ false }
-    ensures answer { IfOk result (λ said. words_answer entry.0 words.now (state_of ctxs.old (P.memory mem.old) kdb.old names.now) ≡ record { output = said.text; state = state_of ctxs.new (P.memory mem.new) kdb.new names.now; outcome = said.outcome }) }
-    ensures current { OnOk result (kdb.new.current ≡ kdb.old.current) }
+    ensures answer { IfOk result (λ said. words_answer gathering words.now (state_of ctxs.old (P.memory mem.old) kdb.old names.now) ≡ record { output = said.text; state = state_of ctxs.new (P.memory mem.new) kdb.new names.now; outcome = said.outcome }) }
+    ensures current_there { OnOk result (kdb.new.current < length ctxs.new) }
+    ensures current { OnOk result (has_bit gathering.gathered kdb.new.current ≡ true) }
 {
     let called = named_by(&kdb.macros, words);
     match macro_called(called, words) {
-        Some(number) => run_macro(alloc, mem, ctxs, kdb, names, entry, number),
-        None => outer_answer(alloc, mem, ctxs, kdb, names, entry, called, words),
+        Some(number) => run_macro(alloc, mem, ctxs, kdb, names, gathering, number),
+        None => outer_answer(alloc, mem, ctxs, kdb, names, gathering, called, words),
     }
 }
 
@@ -113,20 +123,23 @@ fn cut_line<P: Peek>(
     ctxs: &mut [Context],
     kdb: &mut Kdb,
     names: &Symbols,
-    entry: Hart,
+    gathering: Gathering,
     line: &[u8],
 ) -> Result<Said, OutOfMemory>
-    requires current { kdb.old.current < length ctxs.old }
+    requires gathered { gathering.gathered < 2 ^ length ctxs.old }
+    requires current_there_before { kdb.old.current < length ctxs.old }
+    requires current_before { has_bit gathering.gathered kdb.old.current ≡ true }
     requires defining { kdb.old.macros.defining ≡ false }
-    ensures answer { IfOk result (λ said. cut_line entry.0 line.now (state_of ctxs.old (P.memory mem.old) kdb.old names.now) ≡ record { output = said.text; state = state_of ctxs.new (P.memory mem.new) kdb.new names.now; outcome = said.outcome }) }
-    ensures current { OnOk result (kdb.new.current ≡ kdb.old.current) }
+    ensures answer { IfOk result (λ said. cut_line gathering line.now (state_of ctxs.old (P.memory mem.old) kdb.old names.now) ≡ record { output = said.text; state = state_of ctxs.new (P.memory mem.new) kdb.new names.now; outcome = said.outcome }) }
+    ensures current_there { OnOk result (kdb.new.current < length ctxs.new) }
+    ensures current { OnOk result (has_bit gathering.gathered kdb.new.current ≡ true) }
 {
     let Lexed { words, grep } = match lex(alloc, line) {
         Ok(lexed) => lexed,
         Err(LexFault::OutOfMemory) => return Err(OutOfMemory),
         Err(fault) => return uncut(alloc, fault),
     };
-    let said = words_answer(alloc, mem, ctxs, kdb, names, entry, words.as_slice())?;
+    let said = words_answer(alloc, mem, ctxs, kdb, names, gathering, words.as_slice())?;
     let said = through(alloc, said, grep)?;
     Ok(said)
 }
@@ -182,7 +195,11 @@ pub fn run_line<P: Peek>(
     let said = if kdb.macros.defining() {
         stored_answer(alloc, mem, ctxs, kdb, names, line)?
     } else {
-        cut_line(alloc, mem, ctxs, kdb, names, entry, line)?
+        let gathering = Gathering {
+            gathered,
+            entry: entry.0,
+        };
+        cut_line(alloc, mem, ctxs, kdb, names, gathering, line)?
     };
     Ok(said)
 }

@@ -1,4 +1,5 @@
-ghost use Rattle.std.specs.Prelude.{◌≡◌, ◌<◌, length, slice_get, IfOk, OnOk};
+ghost use Rattle.std.specs.Prelude.{◌≡◌, ◌<◌, ◌^◌, true, length, slice_get, IfOk, OnOk};
+ghost use Rattle.mach_base.specs.Texts.{has_bit};
 ghost use Rattle.kdb_cmd.specs.State.{state_of};
 ghost use Rattle.kdb_cmd.specs.Refused.{Changes};
 ghost use Rattle.kdb_cmd.specs.MacroLines.{stays, inner_meaning, inner_answer, inner_line, lines_in, macro_answer};
@@ -8,11 +9,12 @@ use crate::diagnostics::diagnosed;
 use crate::frames::{through, uncut};
 use crate::naming::{Called, named_by};
 use crate::refusals::Refusal;
+use crate::session::Gathering;
 use crate::{Diagnostic, Kdb, Outcome, Said};
 use hart_ctx::Context;
 use kdb_lex::{LexFault, Lexed, lex};
 use kdb_macro::Macros;
-use mach_base::{Hart, OutOfMemory, Peek, Text, push_bytes};
+use mach_base::{OutOfMemory, Peek, Text, push_bytes};
 use std::alloc::Global;
 use sym_map::Symbols;
 
@@ -33,15 +35,18 @@ fn inner_meaning<P: Peek>(
     ctxs: &mut [Context],
     kdb: &mut Kdb,
     names: &Symbols,
-    entry: Hart,
+    gathering: Gathering,
     words: &[Text],
 ) -> Result<Said, Refusal>
-    requires { kdb.old.current < length ctxs.old }
-    ensures answer { Changes result (state_of ctxs.old (P.memory mem.old) kdb.old names.now) (state_of ctxs.new (P.memory mem.new) kdb.new names.now) (inner_meaning entry.0 words.now (state_of ctxs.old (P.memory mem.old) kdb.old names.now)) }
-    ensures current { kdb.new.current ≡ kdb.old.current }
+    requires gathered { gathering.gathered < 2 ^ length ctxs.old }
+    requires current_there_before { kdb.old.current < length ctxs.old }
+    requires current_before { has_bit gathering.gathered kdb.old.current ≡ true }
+    ensures answer { Changes result (state_of ctxs.old (P.memory mem.old) kdb.old names.now) (state_of ctxs.new (P.memory mem.new) kdb.new names.now) (inner_meaning gathering words.now (state_of ctxs.old (P.memory mem.old) kdb.old names.now)) }
+    ensures current_there { kdb.new.current < length ctxs.new }
+    ensures current { has_bit gathering.gathered kdb.new.current ≡ true }
 {
     match named_by(&kdb.macros, words) {
-        Called::Command => words_meaning(alloc, mem, ctxs, kdb, names, entry, words),
+        Called::Command => words_meaning(alloc, mem, ctxs, kdb, names, gathering, words),
         Called::Define | Called::Macro(_) => Err(Refusal::Diagnosed(Diagnostic::NestedMacro)),
     }
 }
@@ -54,14 +59,17 @@ fn inner_answer<P: Peek>(
     ctxs: &mut [Context],
     kdb: &mut Kdb,
     names: &Symbols,
-    entry: Hart,
+    gathering: Gathering,
     words: &[Text],
 ) -> Result<Said, OutOfMemory>
-    requires { kdb.old.current < length ctxs.old }
-    ensures answer { IfOk result (λ said. inner_answer entry.0 words.now (state_of ctxs.old (P.memory mem.old) kdb.old names.now) ≡ record { output = said.text; state = state_of ctxs.new (P.memory mem.new) kdb.new names.now; outcome = said.outcome }) }
-    ensures current { kdb.new.current ≡ kdb.old.current }
+    requires gathered { gathering.gathered < 2 ^ length ctxs.old }
+    requires current_there_before { kdb.old.current < length ctxs.old }
+    requires current_before { has_bit gathering.gathered kdb.old.current ≡ true }
+    ensures answer { IfOk result (λ said. inner_answer gathering words.now (state_of ctxs.old (P.memory mem.old) kdb.old names.now) ≡ record { output = said.text; state = state_of ctxs.new (P.memory mem.new) kdb.new names.now; outcome = said.outcome }) }
+    ensures current_there { kdb.new.current < length ctxs.new }
+    ensures current { has_bit gathering.gathered kdb.new.current ≡ true }
 {
-    match inner_meaning(alloc, mem, ctxs, kdb, names, entry, words) {
+    match inner_meaning(alloc, mem, ctxs, kdb, names, gathering, words) {
         Ok(said) => Ok(said),
         Err(Refusal::Diagnosed(diagnostic)) => {
             let text = diagnosed(alloc, words, diagnostic)?;
@@ -79,19 +87,22 @@ fn inner_line<P: Peek>(
     ctxs: &mut [Context],
     kdb: &mut Kdb,
     names: &Symbols,
-    entry: Hart,
+    gathering: Gathering,
     line: &[u8],
 ) -> Result<Said, OutOfMemory>
-    requires { kdb.old.current < length ctxs.old }
-    ensures answer { IfOk result (λ said. inner_line entry.0 line.now (state_of ctxs.old (P.memory mem.old) kdb.old names.now) ≡ record { output = said.text; state = state_of ctxs.new (P.memory mem.new) kdb.new names.now; outcome = said.outcome }) }
-    ensures current { kdb.new.current ≡ kdb.old.current }
+    requires gathered { gathering.gathered < 2 ^ length ctxs.old }
+    requires current_there_before { kdb.old.current < length ctxs.old }
+    requires current_before { has_bit gathering.gathered kdb.old.current ≡ true }
+    ensures answer { IfOk result (λ said. inner_line gathering line.now (state_of ctxs.old (P.memory mem.old) kdb.old names.now) ≡ record { output = said.text; state = state_of ctxs.new (P.memory mem.new) kdb.new names.now; outcome = said.outcome }) }
+    ensures current_there { kdb.new.current < length ctxs.new }
+    ensures current { has_bit gathering.gathered kdb.new.current ≡ true }
 {
     let Lexed { words, grep } = match lex(alloc, line) {
         Ok(lexed) => lexed,
         Err(LexFault::OutOfMemory) => return Err(OutOfMemory),
         Err(fault) => return uncut(alloc, fault),
     };
-    let said = inner_answer(alloc, mem, ctxs, kdb, names, entry, words.as_slice())?;
+    let said = inner_answer(alloc, mem, ctxs, kdb, names, gathering, words.as_slice())?;
     let said = through(alloc, said, grep)?;
     Ok(said)
 }
@@ -116,16 +127,19 @@ fn run_lines<P: Peek>(
     ctxs: &mut [Context],
     kdb: &mut Kdb,
     names: &Symbols,
-    entry: Hart,
+    gathering: Gathering,
     lines: &[Text],
 ) -> Result<Said, OutOfMemory>
-    requires { kdb.old.current < length ctxs.old }
-    ensures answer { IfOk result (λ said. macro_answer entry.0 lines.now (state_of ctxs.old (P.memory mem.old) kdb.old names.now) ≡ record { output = said.text; state = state_of ctxs.new (P.memory mem.new) kdb.new names.now; outcome = said.outcome }) }
-    ensures current { OnOk result (kdb.new.current ≡ kdb.old.current) }
+    requires gathered { gathering.gathered < 2 ^ length ctxs.old }
+    requires current_there_before { kdb.old.current < length ctxs.old }
+    requires current_before { has_bit gathering.gathered kdb.old.current ≡ true }
+    ensures answer { IfOk result (λ said. macro_answer gathering lines.now (state_of ctxs.old (P.memory mem.old) kdb.old names.now) ≡ record { output = said.text; state = state_of ctxs.new (P.memory mem.new) kdb.new names.now; outcome = said.outcome }) }
+    ensures current_there { OnOk result (kdb.new.current < length ctxs.new) }
+    ensures current { OnOk result (has_bit gathering.gathered kdb.new.current ≡ true) }
 {
     let mut out = Vec::new(alloc);
     for line in lines {
-        let said = inner_line(alloc, mem, ctxs, kdb, names, entry, line.as_bytes())?;
+        let said = inner_line(alloc, mem, ctxs, kdb, names, gathering, line.as_bytes())?;
         push_bytes(&mut out, said.text.as_bytes())?;
         if !stays(said.outcome) {
             return Ok(Said {
@@ -144,14 +158,17 @@ pub fn run_macro<P: Peek>(
     ctxs: &mut [Context],
     kdb: &mut Kdb,
     names: &Symbols,
-    entry: Hart,
+    gathering: Gathering,
     number: usize,
 ) -> Result<Said, OutOfMemory>
-    requires { kdb.old.current < length ctxs.old }
-    ensures answer { IfOk result (λ said. macro_answer entry.0 (lines_in (slice_get kdb.old.macros.macros number)) (state_of ctxs.old (P.memory mem.old) kdb.old names.now) ≡ record { output = said.text; state = state_of ctxs.new (P.memory mem.new) kdb.new names.now; outcome = said.outcome }) }
-    ensures current { OnOk result (kdb.new.current ≡ kdb.old.current) }
+    requires gathered { gathering.gathered < 2 ^ length ctxs.old }
+    requires current_there_before { kdb.old.current < length ctxs.old }
+    requires current_before { has_bit gathering.gathered kdb.old.current ≡ true }
+    ensures answer { IfOk result (λ said. macro_answer gathering (lines_in (slice_get kdb.old.macros.macros number)) (state_of ctxs.old (P.memory mem.old) kdb.old names.now) ≡ record { output = said.text; state = state_of ctxs.new (P.memory mem.new) kdb.new names.now; outcome = said.outcome }) }
+    ensures current_there { OnOk result (kdb.new.current < length ctxs.new) }
+    ensures current { OnOk result (has_bit gathering.gathered kdb.new.current ≡ true) }
 {
     let lines = lines_of(alloc, &kdb.macros, number)?;
-    let said = run_lines(alloc, mem, ctxs, kdb, names, entry, lines.as_slice())?;
+    let said = run_lines(alloc, mem, ctxs, kdb, names, gathering, lines.as_slice())?;
     Ok(said)
 }

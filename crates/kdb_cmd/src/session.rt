@@ -7,6 +7,13 @@ use kdb_macro::Macros;
 use mach_base::OutOfMemory;
 use std::alloc::Global;
 
+/// The processors in a session, a bit for each by its number, and the one that the session was entered on.
+#[derive(Clone, Copy, Debug, PartialEq, Eq)]
+pub struct Gathering {
+    pub gathered: u64,
+    pub entry: u8,
+}
+
 /// What the debugger keeps between two lines.
 #[derive(Debug, Drop)]
 pub struct Kdb {

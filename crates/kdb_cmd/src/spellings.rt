@@ -19,6 +19,8 @@ pub enum Command {
     Set,
     /// A command about breakpoints.
     Break(Breaking),
+    /// `cpu`: shows the processors in the session, or makes one of them the current one.
+    Cpu,
     /// `ss`: leaves the session for one instruction.
     Ss,
     /// `go`: leaves the session.
@@ -59,6 +61,12 @@ pub enum Showing {
     Rd,
     /// `env`: the variables.
     Env,
+    /// `bt`: the frames of the current processor.
+    Bt,
+    /// `btc`: the frames of each processor in the session.
+    Btc,
+    /// `help`: how commands are written.
+    Help,
 }
 
 /// The command that a word spells; None exactly where there is no such command.
@@ -149,6 +157,14 @@ fn named(word: &[u8]) -> Option<Command>
         Some(Command::Ss)
     } else if word == b"go".as_slice() {
         Some(Command::Go)
+    } else if word == b"bt".as_slice() {
+        Some(Command::Show(Showing::Bt))
+    } else if word == b"btc".as_slice() {
+        Some(Command::Show(Showing::Btc))
+    } else if word == b"cpu".as_slice() {
+        Some(Command::Cpu)
+    } else if word == b"help".as_slice() {
+        Some(Command::Show(Showing::Help))
     } else {
         None
     }

@@ -52,20 +52,32 @@ impl Peek for Bytes {
     }
 }
 
-/// A session of two processors, entered on processor 0.
+/// A session of a machine with two processors, entered on processor 0.
 #[derive(Drop)]
 struct Bench {
     mem: Bytes,
     ctxs: [Context; 2],
     kdb: Kdb,
     names: Symbols,
+    gathered: u64,
+    ghost few: { gathered < 4 },
+    ghost entered: { has_bit gathered 0 ≡ true },
     ghost there: { kdb.current < 2 },
-    ghost gathered: { has_bit 3 kdb.current ≡ true },
+    ghost current: { has_bit gathered kdb.current ≡ true },
 }
 
 impl Bench {
-    /// Memory up to 0x2010, whose last 16 bytes are two words, and the symbols `start` and `face`.
+    /// Both processors are in the session.
     fn new(alloc: Global) -> Result<Bench, Fail> {
+        Bench::gathering(alloc, 3)
+    }
+
+    /// Memory up to 0x2010, whose last 16 bytes are two words, and the symbols `start` and `face`; these processors are
+    /// in the session.
+    fn gathering(alloc: Global, gathered: u64) -> Result<Bench, Fail>
+        requires few { gathered < 4 }
+        requires entered { has_bit gathered 0 ≡ true }
+    {
         let mut bytes = Vec::new(alloc);
         for _i in 0..0x2000u32 {
             bytes.push(0)?;
@@ -85,6 +97,7 @@ impl Bench {
             ctxs: [Context::new(0x1000, 0); 2],
             kdb,
             names,
+            gathered,
         })
     }
 
@@ -95,7 +108,7 @@ impl Bench {
             &mut self.ctxs,
             &mut self.kdb,
             &self.names,
-            3,
+            self.gathered,
             Hart(0),
             line,
         ) {
@@ -260,7 +273,10 @@ static REGISTERS: [Row; 4] = [
     (b"rd | grep pc", b"  pc: 0000000000001004\n"),
 ];
 
-static ELSEWHERE: [Row; 2] = [
+static ELSEWHERE: [Row; 5] = [
+    (b"cpu 1", b"Currently on cpu 1\n"),
+    (b"ss", b"diag: 15: entered on cpu 0\n"),
+    (b"go", b"diag: 15: entered on cpu 0\n"),
     (b"go zork", b"diag: 1: unknown name zork\n"),
     (b"go 1000", b"diag: 15: entered on cpu 0\n"),
 ];
@@ -273,7 +289,6 @@ fn changes_registers_and_leaves(rt: HostRuntime) -> Result<(), Fail> {
     assert_eq!(rt; said.outcome, Outcome::Go);
     let (first, second) = (bench.ctxs[0], bench.ctxs[1]);
     assert_eq!(rt; (first.pc, second.pc), (0x1002, 0x1000));
-    bench.kdb.current = 1;
     lines_print(&rt, rt.alloc(), &mut bench, &ELSEWHERE)
 }
 
@@ -364,11 +379,14 @@ static DEFINITIONS: [Row; 14] = [
     (b"v 1", b"diag: 2: wrong number of arguments\n"),
 ];
 
-static NO_DEFINITIONS: [Row; 6] = [
+static NO_DEFINITIONS: [Row; 9] = [
     (b"endefcmd", b"diag: 5: unknown command endefcmd\n"),
     (b"defcmd", b"diag: 2: wrong number of arguments\n"),
     (b"defcmd md4c0", b"diag: 19: reserved name md4c0\n"),
     (b"defcmd cpu", b"diag: 19: reserved name cpu\n"),
+    (b"defcmd bt", b"diag: 19: reserved name bt\n"),
+    (b"defcmd btc", b"diag: 19: reserved name btc\n"),
+    (b"defcmd help", b"diag: 19: reserved name help\n"),
     (b"defcmd w", b"diag: 8: duplicate\n"),
     (b"defcmd 1a", b"diag: 24: bad name 1a\n"),
 ];
@@ -402,4 +420,120 @@ fn a_macro_has_32_lines(rt: HostRuntime) -> Result<(), Fail> {
     let said = bench.line(rt.alloc(), b"w")?;
     assert_eq!(rt; said.text.as_bytes().len(), 32 * 23);
     Ok(())
+}
+
+static PROCESSORS: [Row; 13] = [
+    (b"cpu", b"Currently on cpu 0\nAvailable cpus: 0, 1\n"),
+    (b"cpu 9", b"diag: 14: bad cpu 9\n"),
+    (b"cpu 2", b"diag: 14: bad cpu 2\n"),
+    (
+        b"cpu 18446744073709551615",
+        b"diag: 14: bad cpu 18446744073709551615\n",
+    ),
+    (
+        b"cpu 18446744073709551616",
+        b"diag: 11: bad number 18446744073709551616\n",
+    ),
+    (b"cpu x", b"diag: 11: bad number x\n"),
+    (b"cpu 0 1", b"diag: 2: wrong number of arguments\n"),
+    (b"rm a0 5", b"a0 = 0x0000000000000005\n"),
+    (b"cpu 1", b"Currently on cpu 1\n"),
+    (b"rm a0 %a0+7", b"a0 = 0x0000000000000007\n"),
+    (b"cpu", b"Currently on cpu 1\nAvailable cpus: 0, 1\n"),
+    (b"go", b"diag: 15: entered on cpu 0\n"),
+    (b"cpu 0x0", b"Currently on cpu 0\n"),
+];
+
+/// Processor 1 came too late.
+static LATE: [Row; 3] = [
+    (b"cpu 1", b"diag: 14: bad cpu 1\n"),
+    (b"cpu", b"Currently on cpu 0\nAvailable cpus: 0\n"),
+    (b"btc", b"cpu 0\n#0 0x0000000000001000 (start)\n"),
+];
+
+/// A macro that goes to processor 1 and back.
+static MOVING_MACRO: [Row; 6] = [
+    (b"defcmd there", b""),
+    (b"cpu 1", b""),
+    (b"rd | grep pc", b""),
+    (b"cpu 0", b""),
+    (b"endefcmd", b""),
+    (
+        b"there",
+        b"Currently on cpu 1\n  pc: 0000000000001000\nCurrently on cpu 0\n",
+    ),
+];
+
+#[test]
+fn goes_from_one_processor_to_another(rt: HostRuntime) -> Result<(), Fail> {
+    let mut bench = Bench::new(rt.alloc())?;
+    lines_print(&rt, rt.alloc(), &mut bench, &PROCESSORS)?;
+    lines_print(&rt, rt.alloc(), &mut bench, &MOVING_MACRO)?;
+    let (first, second) = (bench.ctxs[0], bench.ctxs[1]);
+    assert_eq!(rt; (first.get(10), second.get(10)), (5, 7));
+    let mut bench = Bench::gathering(rt.alloc(), 1)?;
+    lines_print(&rt, rt.alloc(), &mut bench, &LATE)
+}
+
+/// Two frame pointers of processor 0, and the frames that they lead to.
+static FRAMES: [Row; 14] = [
+    (b"rm s0 2000", b"s0 = 0x0000000000002000\n"),
+    (
+        b"mm 1ff8 1004",
+        b"0x0000000000001ff8 = 0x0000000000001004\n",
+    ),
+    (
+        b"mm 1ff0 2010",
+        b"0x0000000000001ff0 = 0x0000000000002010\n",
+    ),
+    (
+        b"mm 2008 1008",
+        b"0x0000000000002008 = 0x0000000000001008\n",
+    ),
+    (
+        b"mm 2000 2000",
+        b"0x0000000000002000 = 0x0000000000002000\n",
+    ),
+    (
+        b"bt",
+        b"#0 0x0000000000001000 (start)\n#1 0x0000000000001004 (start+0x4)\n#2 0x0000000000001008 (start+0x8)\n",
+    ),
+    (
+        b"btc",
+        b"cpu 0\n#0 0x0000000000001000 (start)\n#1 0x0000000000001004 (start+0x4)\n#2 0x0000000000001008 (start+0x8)\ncpu 1\n#0 0x0000000000001000 (start)\n",
+    ),
+    (
+        b"mm 1ff0 2000",
+        b"0x0000000000001ff0 = 0x0000000000002000\n",
+    ),
+    (
+        b"bt",
+        b"#0 0x0000000000001000 (start)\n#1 0x0000000000001004 (start+0x4)\n",
+    ),
+    (b"bt | grep ^#1", b"#1 0x0000000000001004 (start+0x4)\n"),
+    (b"bt 1", b"diag: 2: wrong number of arguments\n"),
+    (b"btc 1", b"diag: 2: wrong number of arguments\n"),
+    (b"cpu 1", b"Currently on cpu 1\n"),
+    (b"bt", b"#0 0x0000000000001000 (start)\n"),
+];
+
+#[test]
+fn shows_frames(rt: HostRuntime) -> Result<(), Fail> {
+    let mut bench = Bench::new(rt.alloc())?;
+    lines_print(&rt, rt.alloc(), &mut bench, &FRAMES)
+}
+
+static USAGES: [Row; 3] = [
+    (
+        b"help",
+        b"md E [E]\nmdW E [E]\nmdWcN E\nmdr E E\nmds E [E]\nmm E E\nmmW E E\nrd\nrm REG E\nbp\nbp E\nbl\nbc N\nbd N\nbe N\nss\ngo [E]\nbt\nbtc\ncpu\ncpu N\nenv\nset NAME=VALUE\nset NAME VALUE\ndefcmd NAME [USAGE [HELP]]\nhelp\n",
+    ),
+    (b"help | grep ^bt", b"bt\nbtc\n"),
+    (b"help md", b"diag: 2: wrong number of arguments\n"),
+];
+
+#[test]
+fn shows_how_commands_are_written(rt: HostRuntime) -> Result<(), Fail> {
+    let mut bench = Bench::new(rt.alloc())?;
+    lines_print(&rt, rt.alloc(), &mut bench, &USAGES)
 }

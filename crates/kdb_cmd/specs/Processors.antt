@@ -1,0 +1,85 @@
+-- The commands about processors.
+use Rattle.std.specs.Prelude.{ℕ, zero, suc, ◌==◌, ◌&&◌, Bool, List, [], ◌++◌, length, codes, nat_lt, Result, Ok, Err, if◌then◌else◌}
+use Rattle.mach_base.specs.Machine.{Context}
+use Rattle.mach_base.specs.Number.{dec_text, number_of}
+use Rattle.mach_base.specs.Texts.{newline, has_bit}
+use Rattle.mach_base.specs.declared.number.NumFault.{NumFault}
+use Rattle.hart_ctx.specs.Context.{context_of}
+use Rattle.kdb_bt.specs.Frames.{frames_of}
+use Rattle.kdb_bt.specs.Texts.{frames_text}
+use Rattle.kdb_cmd.specs.declared.diagnostics.Diagnostic.{Diagnostic}
+use Rattle.kdb_cmd.specs.declared.diagnostics.Diagnostic.TheVariants.{WrongArguments, BadNumber, BadProcessor}
+use Rattle.kdb_cmd.specs.declared.outcomes.Outcome.TheVariants.{Stay}
+use Rattle.kdb_cmd.specs.LineState.{LineState, Answer, current_context}
+use Rattle.kdb_cmd.specs.Diagnostics.{word_at}
+use Rattle.kdb_cmd.specs.Refused.{◌>>=◌}
+
+-- whether a processor is in the session; there are at most 16
+abbrev pub is_gathered : ℕ → ℕ → Bool
+is_gathered gathered n = nat_lt n 16 && has_bit gathered n
+
+-- what stands between a number and those before it
+abbrev pub separator : List ℕ → List ℕ
+separator before = if length before == 0 then [] else codes ", "
+
+-- a number behind those before it, where its processor is in the session
+unfoldable pub number_text : ℕ → ℕ → List ℕ → List ℕ
+number_text gathered n before = if has_bit gathered n then separator before ++ dec_text n else []
+
+-- the numbers below n of the processors in the session, ascending
+abbrev pub numbers_text : ℕ → ℕ → List ℕ
+numbers_text gathered zero = []
+numbers_text gathered (suc n) = numbers_text gathered n ++ number_text gathered n (numbers_text gathered n)
+
+-- the line that says which processor is the current one
+unfoldable pub current_line : ℕ → List ℕ
+current_line n = codes "Currently on cpu " ++ (dec_text n ++ newline)
+
+-- the line of the processors in the session
+unfoldable pub available_line : ℕ → List ℕ
+available_line gathered = codes "Available cpus: " ++ (numbers_text gathered 16 ++ newline)
+
+-- `cpu`: the current processor, and those in the session
+unfoldable pub cpu_text : ℕ → ℕ → List ℕ
+cpu_text gathered current = current_line current ++ available_line gathered
+
+-- a processor, where it is in the session
+abbrev pub gathered_or : ℕ → Result ℕ NumFault → Result ℕ Diagnostic
+gathered_or gathered (Ok n) = if is_gathered gathered n then Ok n else Err (BadProcessor n)
+gathered_or gathered (Err why) = Err (BadNumber 1)
+
+-- the processor that the argument of `cpu N` names by its number, in decimal
+unfoldable pub processor_wanted : ℕ → List (List ℕ) → Result ℕ Diagnostic
+processor_wanted gathered words = gathered_or gathered (number_of 10 (word_at words 1))
+
+-- a processor becomes the current one
+abbrev pub moved : LineState → ℕ → Result Answer Diagnostic
+moved s n = Ok (record { output = current_line n; state = record s { current = n }; outcome = Stay })
+
+-- `cpu [N]`
+unfoldable pub cpu_answer : ℕ → LineState → List (List ℕ) → Result Answer Diagnostic
+cpu_answer gathered s words =
+    if length words == 1 then Ok (record { output = cpu_text gathered s.current; state = s; outcome = Stay })
+    else if length words == 2 then (processor_wanted gathered words >>= moved s)
+    else Err WrongArguments
+
+-- the frames of a context
+abbrev pub context_frames : LineState → Context → List ℕ
+context_frames s context = frames_text s.symbols 0 (frames_of s.memory context)
+
+-- `bt`: the frames of the current processor
+unfoldable pub bt_text : LineState → List (List ℕ) → Result (List ℕ) Diagnostic
+bt_text s words = if length words == 1 then Ok (context_frames s (current_context s)) else Err WrongArguments
+
+-- a processor's number, and its frames
+unfoldable pub processor_frames : LineState → ℕ → List ℕ
+processor_frames s n = codes "cpu " ++ (dec_text n ++ (newline ++ context_frames s (context_of s.harts n)))
+
+-- the frames of the processors below n that are in the session, ascending
+abbrev pub frames_below : ℕ → LineState → ℕ → List ℕ
+frames_below gathered s zero = []
+frames_below gathered s (suc n) = frames_below gathered s n ++ (if has_bit gathered n then processor_frames s n else [])
+
+-- `btc`: the frames of each processor in the session
+unfoldable pub btc_text : ℕ → LineState → List (List ℕ) → Result (List ℕ) Diagnostic
+btc_text gathered s words = if length words == 1 then Ok (frames_below gathered s 16) else Err WrongArguments
