@@ -33,6 +33,8 @@ impl Atom {
     ghost use Rattle.atom_mach.specs.Run.{Turns};
     ghost use Rattle.atom_mach.specs.Work.{work_left};
     ghost use Rattle.atom_mach.specs.Step.{does};
+    ghost use Rattle.atom_mach.specs.Late.{LateSessionKeeps};
+    ghost use Rattle.atom_mach.specs.Limits.{WithinLimits};
     ghost use Rattle.atom_mach.specs.Modes.{Fits, ending_of};
     ghost use Rattle.atom_mach.specs.declared.step.StepFault.TheVariants.{NotNow};
 
@@ -53,6 +55,7 @@ impl Atom {
         requires low { 1 ≤ limit }
         requires high { limit ≤ 4000000 }
         ensures state { IfOk result (λ atom. atom ≡ start_state image.now names script.now harts limit) }
+        ensures limits { IfOk result (λ atom. length names ≤ 500000 → WithinLimits atom) }
     {
         let booted = boot(alloc, image, harts)?;
         let lines = checked_lines(alloc, script)?;
@@ -94,6 +97,7 @@ impl Atom {
         ensures not_now { (result ≡ Err NotNow) ↔ (does self.old step ≡ None) }
         ensures kept { result ≡ Err NotNow → self.new ≡ self.old }
         ensures fits { Fits (length self.new.machine.harts) self.new.mode }
+        ensures late_sessions { OnOk result (LateSessionKeeps self.old step self.new) }
     {
         let mut out = Vec::new(*self.core.lines.allocator());
         match self.core.try_step(&mut out, step) {
