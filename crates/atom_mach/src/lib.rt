@@ -24,6 +24,8 @@ mod moves;
 mod script;
 mod sessions;
 mod step;
+#[cfg(test)]
+mod tests;
 mod texts;
 mod turns;
 
