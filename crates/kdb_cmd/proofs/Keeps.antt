@@ -1,21 +1,21 @@
 -- No line changes segments, symbols or the number of harts, and each line keeps the debugger's limits.
-use Rattle.std.proofs.Common.{◌≡◌, ℕ, zero, suc, eqb, codes, ◌+◌, ◌-◌, ◌<◌, ◌≤◌, Bool, true, false, not, cond, ◌&&◌, ◌||◌, List, [], ◌∷◌, ◌++◌, length, set, Option, Some, None, Result, Ok, Err, is_none, nat_le, nat_lt, refl, sym, ap, ◌∙◌, arith, length-append}
+use Rattle.std.proofs.Common.{◌≡◌, ℕ, zero, suc, eqb, codes, ◌+◌, ◌-◌, ◌≤◌, Bool, true, false, not, cond, ◌&&◌, ◌||◌, List, [], ◌∷◌, ◌++◌, length, set, Option, Some, None, Result, Ok, Err, is_none, nat_le, nat_lt, refl, ◌∙◌, arith, length-append}
 use Rattle.std.specs.Prelude.{IfOk, unwrap_or, slice_get, slice_set}
 use Rattle.std.specs.List.{AllByRecursion, list_any}
 use Rattle.std.specs.Option.{option_or}
 use Rattle.std.specs.Str.{bytes_eq}
 use Rattle.std.proofs.lemmas.List.{length-map, length-set}
-use Rattle.mach_base.specs.Machine.{Context, Place, Macro as MacroRecord}
+use Rattle.mach_base.specs.Machine.{Context, Macro as MacroRecord}
 use Rattle.mach_base.specs.declared.number.NumFault.{NumFault}
 use Rattle.mach_base.specs.Number.{number_of}
 use Rattle.mach_base.specs.Lines.{words_of}
 use Rattle.kdb_lex.specs.declared.lex_fault.LexFault.{LexFault}
-use Rattle.kdb_lex.specs.Line.{command_words, refusal_of as lex_refusal, line_pattern}
+use Rattle.kdb_lex.specs.Line.{command_words, refusal_of as lex_refusal}
 use Rattle.kdb_mem.specs.declared.mem_fault.MemFault.{MemFault}
 use Rattle.kdb_mem.specs.declared.mem_fault.MemFault.TheVariants.{BadAddr, TooWide, OutOfMemory}
 use Rattle.kdb_mem.specs.Changed.{modify_refusal}
 use Rattle.kdb_bp.specs.declared.bp_fault.BpFault.{BpFault}
-use Rattle.kdb_bp.specs.Breaks.{place_at, added, with_place}
+use Rattle.kdb_bp.specs.Breaks.{place_at, added}
 use Rattle.kdb_reg.specs.Registers.{is_zero, with_named, set_text}
 use Rattle.kdb_env.specs.declared.env_fault.EnvFault.{EnvFault}
 use Rattle.kdb_env.specs.declared.env_fault.EnvFault.TheVariants.{BadName, Full}
@@ -25,8 +25,7 @@ use Rattle.kdb_macro.specs.declared.macro_fault.MacroFault.TheVariants as fault
 use Rattle.kdb_macro.specs.Macros.{MacroList, is_named, begin_refusal, begun, add_refusal, with_line, last_macro, longer}
 use Rattle.kdb_cmd.specs.declared.diagnostics.Diagnostic.{Diagnostic}
 use Rattle.kdb_cmd.specs.declared.diagnostics.Diagnostic.TheVariants as diagnostic
-use Rattle.kdb_cmd.specs.declared.outcomes.Outcome.{Outcome}
-use Rattle.kdb_cmd.specs.declared.outcomes.Outcome.TheVariants.{Stay, Go, Step}
+use Rattle.kdb_cmd.specs.declared.outcomes.Outcome.TheVariants.{Stay, Go}
 use Rattle.kdb_cmd.specs.declared.spellings.Command.{Command}
 use Rattle.kdb_cmd.specs.declared.spellings.Command.TheVariants as command
 use Rattle.kdb_cmd.specs.declared.spellings.Breaking.{Breaking}
@@ -42,12 +41,12 @@ use Rattle.kdb_cmd.specs.LineState.{LineState, Answer, current_context, with_cur
 use Rattle.kdb_cmd.specs.Diagnostics.{word_at}
 use Rattle.kdb_cmd.specs.Refused.{◌>>=◌}
 use Rattle.kdb_cmd.specs.Arguments.{argument}
-use Rattle.kdb_cmd.specs.ChangedMemory.{without_reservation, mm_wanted, memory_set, mm_answer}
+use Rattle.kdb_cmd.specs.ChangedMemory.{mm_wanted, memory_set, mm_answer}
 use Rattle.kdb_cmd.specs.Registers.{rm_wanted, register_set, rm_answer}
 use Rattle.kdb_cmd.specs.Variables.{pair_wanted, variables_unless, variables_set, set_answer}
 use Rattle.kdb_cmd.specs.Breakpoints.{Places, bl_marked, placed, placed_at, bp_marked, changed, changed_at, changed_first, changed_lines, changed_or, one_changed, number_changed, word_changed, mark_marked, breakpoints_marked}
 use Rattle.kdb_cmd.specs.Processors.{cpu_text, processor_wanted, moved, cpu_answer}
-use Rattle.kdb_cmd.specs.Leaving.{pc_wanted, with_pc, left, go_answer, ss_refusal, step_unless, ss_answer}
+use Rattle.kdb_cmd.specs.Leaving.{pc_wanted, with_pc, left, go_answer, ss_refusal, step_unless}
 use Rattle.kdb_cmd.specs.Commands.{showing, shown_text, command_answer, answer_if_known, words_meaning, answer_or_line}
 use Rattle.kdb_cmd.specs.Spellings.{command_of}
 use Rattle.kdb_cmd.specs.Naming.{named_by}
@@ -55,7 +54,7 @@ use Rattle.kdb_cmd.specs.Frames.{unless_refused, framed}
 use Rattle.kdb_cmd.specs.Macros.{is_end, is_reserved, macros_unless, line_stored, macro_begun}
 use Rattle.kdb_cmd.specs.MacroLines.{stays, unless_nested, inner_meaning, inner_answer, inner_line, joined, macro_answer, lines_in}
 use Rattle.kdb_cmd.specs.Line.{macros_of, with_macros, outer_meaning, outer_answer, macro_called, macro_or_words, words_answer, cut_line, stored_answer, line_said}
-use Rattle.kdb_cmd.specs.Limits.{WithinLimits, Keeps}
+use Rattle.kdb_cmd.specs.Limits.{Keeps}
 
 Keeps-same : (s : LineState) → Keeps s s
 Keeps-same s = record { segments = refl; symbols = refl; harts = refl; limits = λ w. w }

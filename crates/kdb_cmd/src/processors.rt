@@ -1,8 +1,8 @@
-ghost use Rattle.std.specs.Prelude.{◌≡◌, ◌++◌, ◌≤◌, ◌<◌, ◌^◌, true, length, Ok, OnOk, IfOk};
+ghost use Rattle.std.specs.Prelude.{◌≡◌, ◌++◌, ◌<◌, ◌^◌, true, length, OnOk, IfOk};
 ghost use Rattle.mach_base.specs.Texts.{has_bit};
 ghost use Rattle.kdb_cmd.specs.State.{state_of};
 ghost use Rattle.kdb_cmd.specs.Refused.{Answers, Changes};
-ghost use Rattle.kdb_cmd.specs.Processors.{is_gathered, number_text, numbers_text, current_line, available_line, cpu_text, processor_wanted, cpu_answer, context_frames, bt_text, processor_frames, frames_below, btc_text};
+ghost use Rattle.kdb_cmd.specs.Processors.{is_gathered, number_text, numbers_text, current_line, available_line, cpu_text, processor_wanted, cpu_answer, bt_text, processor_frames, frames_below, btc_text};
 
 use crate::diagnostics::word_at;
 use crate::refusals::Refusal;
