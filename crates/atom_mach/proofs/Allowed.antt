@@ -1,7 +1,6 @@
 -- Which steps are allowed, step by step.
-use Rattle.std.proofs.Common.{◌≡◌, ◌≢◌, ℕ, zero, suc, ◌+◌, ◌^◌, ◌<◌, ◌==◌, ◌&&◌, ◌||◌, Bool, true, false, not, cond, IsTrue, List, [], ◌∷◌, ◌++◌, length, Option, Some, None, nat_lt, refl, sym, ap, ◌∙◌, arith, rules}
+use Rattle.std.proofs.Common.{◌≡◌, ◌≢◌, ℕ, zero, suc, ◌^◌, ◌<◌, ◌==◌, ◌&&◌, ◌||◌, Bool, true, false, not, cond, IsTrue, ◌++◌, length, Option, Some, None, nat_lt, refl, sym, ap, ◌∙◌, arith, rules}
 use Rattle.std.proofs.lemmas.Bool.{false≢true}
-use Rattle.std.proofs.lemmas.Bool.Decides.{nat_tests}
 use Rattle.mach_base.specs.Machine.{Machine}
 use Rattle.mach_base.specs.declared.event.Hart.{Hart}
 use Rattle.mach_base.specs.declared.event.Reason.{Reason}
@@ -9,11 +8,11 @@ use Rattle.mach_base.specs.declared.event.Ending.TheVariants.{ScriptEnd}
 use Rattle.mach_base.specs.Texts.{newline, has_bit}
 use Rattle.atom_mach.specs.declared.step.Mode.{Mode}
 use Rattle.atom_mach.specs.declared.step.Mode.TheVariants.{Free, Hold, Pass, Back, Leave, Over}
-use Rattle.atom_mach.specs.declared.step.AStep.TheVariants.{Instr, Intr, Session, Enter, Line, End, Off}
-use Rattle.atom_mach.specs.State.{State, context_at}
-use Rattle.atom_mach.specs.Step.{Done, does, is_hart, may_run, may_pass, may_take, opening, opened_for, held_for, session, held_line, closed, holds_at_end, prompt_text}
+use Rattle.atom_mach.specs.declared.step.AStep.TheVariants.{Instr, Session, Enter, Line, End, Off}
+use Rattle.atom_mach.specs.State.{State}
+use Rattle.atom_mach.specs.Step.{Done, does, is_hart, may_run, may_pass, opening, opened_for, held_for, session, held_line, closed, holds_at_end, prompt_text}
 use Rattle.atom_mach.specs.Modes.{Fits, IsSitting, IsGathered, ReadsWith, is_alone}
-use Rattle.atom_mach.proofs.Steps.{cond_true, cond_false, and_false}
+use Rattle.atom_mach.proofs.Steps.{cond_true, cond_false}
 
 and_first : (a b : Bool) → a ≡ false → (a && b) ≡ false
 and_first a b e = rw e refl

@@ -16,7 +16,7 @@ use Rattle.hart_step.specs.Execution.{without_reservation, stored_granule, ended
 use Rattle.kdb_cmd.specs.declared.outcomes.Outcome.{Outcome}
 use Rattle.kdb_cmd.specs.declared.outcomes.Outcome.TheVariants.{Stay, Go, Step as StepOut}
 use Rattle.kdb_cmd.specs.Limits.{WithinLimits as DebuggerLimits}
-use Rattle.kdb_cmd.proofs.Keeps.{line-keeps}
+use Rattle.kdb_cmd.proofs.Keeps.{line_keeps}
 use Rattle.atom_mach.specs.declared.step.Mode.{Mode}
 use Rattle.atom_mach.specs.declared.step.Mode.TheVariants.{Free, Hold, Pass, Back, Leave, Over}
 use Rattle.atom_mach.specs.State.{State, context_at}
@@ -143,7 +143,7 @@ entered_kept s m = record {
 pub line_kept : (m : Hart) (late : ℕ) (line : List ℕ) (rest : List (List ℕ)) (s : Machine) → s.unread ≡ line ∷ rest → IsKept s (line_said m late line (with_read s rest)).machine
 unfolding line_said
 line_kept m late line rest s e =
-    let k = line-keeps (gathered (with_read s rest) late) m.0 line (line_state (with_read s rest)) in
+    let k = line_keeps (gathered (with_read s rest) late) m.0 line (line_state (with_read s rest)) in
     record {
       harts = k.harts;
       segments = k.segments;

@@ -1,12 +1,11 @@
 -- The modes of a machine: what each of them names, and those of a machine with one hart.
-use Rattle.std.specs.Prelude.{◌≡◌, ◌≢◌, ℕ, ◌<◌, ◌^◌, ◌==◌, ◌&&◌, Bool, true, false, IsTrue, length, Option, Some, None}
+use Rattle.std.specs.Prelude.{◌≡◌, ◌≢◌, ℕ, ◌<◌, ◌^◌, ◌==◌, ◌&&◌, Bool, true, false, Option, Some, None}
 use Rattle.std.specs.Coded.{le_prop, coded_bool, Coded-set}
 use Rattle.mach_base.specs.Texts.{has_bit}
 use Rattle.mach_base.specs.declared.event.Hart.{Hart}
 use Rattle.mach_base.specs.declared.event.Ending.{Ending}
 use Rattle.atom_mach.specs.declared.step.Mode.{Mode}
 use Rattle.atom_mach.specs.declared.step.Mode.TheVariants.{Free, Hold, Pass, Back, Leave, Over}
-use Rattle.atom_mach.specs.State.{State}
 
 -- how many instructions are owed beyond the limit of steps
 abbrev pub owed : Mode → ℕ

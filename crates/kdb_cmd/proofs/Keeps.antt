@@ -441,8 +441,8 @@ either_line s true a other p q = p
 either_line s false a other p q = q
 
 -- Whatever the line, the session and the state: segments, symbols and the number of harts stay, and so do the limits.
-pub line-keeps : (gathered entry : ℕ) (line : List ℕ) (s : LineState) → Keeps s (line_said gathered entry line s).state
+pub line_keeps : (gathered entry : ℕ) (line : List ℕ) (s : LineState) → Keeps s (line_said gathered entry line s).state
 unfolding line_said
-line-keeps gathered entry line s =
+line_keeps gathered entry line s =
     let g : Gathering = record { gathered = gathered; entry = entry } in
     either_line s s.defining (stored_answer line s) (cut_line g line s) (stored-keeps line s) (cut_line-keeps g line s)

@@ -21,6 +21,7 @@ mod diagnostics;
 mod filtered;
 mod frames;
 mod help;
+mod laws;
 mod leaving;
 mod lines;
 mod macro_lines;
@@ -38,6 +39,7 @@ mod variables;
 mod views;
 
 use diagnostics::Diagnostic;
+pub use laws::lines_keep_the_limits;
 pub use lines::run_line;
 pub use outcomes::{Outcome, Said};
 pub use session::Kdb;

@@ -1,4 +1,4 @@
-use Rattle.std.proofs.Common.{◌≡◌, ℕ, ◌+◌, ◌&&◌, ◌++◌, cond, not, [], sym, ap, ◌∙◌, append_assoc, arith}
+use Rattle.std.proofs.Common.{◌≡◌, ℕ, ◌&&◌, ◌++◌, cond, not, [], sym, ap, ◌∙◌, append_assoc, arith}
 use Rattle.mach_base.specs.Texts.{has_bit}
 use Rattle.atom_mach.specs.Texts.{joined_by, joined_by_blank}
 use Rattle.atom_mach.proofs.Joined.{is_empty, below, numbers_more, none_so_far}

@@ -1,4 +1,4 @@
-use Rattle.std.proofs.Common.{◌≡◌, ◌≢◌, ◌<◌, ◌||◌, ◌++◌, true, false, Bool, Some, None, length, sym, ap, ◌∙◌, refl, arith, rules}
+use Rattle.std.proofs.Common.{◌≡◌, ◌≢◌, ◌<◌, ◌||◌, ◌++◌, true, false, Bool, Some, None, length, sym, ap, ◌∙◌, refl, rules}
 use Rattle.std.specs.Option.{option_to_list}
 use Rattle.mach_base.specs.declared.event.Hart.{Hart}
 use Rattle.atom_mach.specs.declared.step.AStep.TheVariants.{Instr}

@@ -1,10 +1,10 @@
 use Rattle.std.proofs.Common.{◌≡◌, ℕ, ◌+◌, ◌++◌, ◌<◌, ◌^◌, Bool, true, false, not, List, length, take, drop, refl, sym, ap, ◌∙◌, arith}
 use Rattle.mach_base.specs.Machine.{Context, Machine}
-use Rattle.mach_base.specs.Texts.{newline, has_bit}
+use Rattle.mach_base.specs.Texts.{has_bit}
 use Rattle.kdb_cmd.specs.LineState.{Answer}
 use Rattle.kdb_cmd.specs.State as parts
 use Rattle.atom_mach.specs.Core.{machine_of}
-use Rattle.atom_mach.specs.Step.{Said, gathered, line_state, with_line_state, said_by, prompt_text, with_read, line_said}
+use Rattle.atom_mach.specs.Step.{Said, gathered, line_state, with_line_state, said_by, with_read, line_said}
 use Rattle.atom_mach.proofs.SessionLines.{at_place, ran, written_over}
 use Rattle.atom_mach.proofs.Masks.{others_have}
 use Rattle.atom_mach.proofs.Allowed.{gathered_in}

@@ -1,4 +1,3 @@
-use Rattle.std.proofs.Common.{◌≡◌, ◌++◌, sym, ap, ◌∙◌}
 use Rattle.mach_base.specs.Texts.{newline}
 use Rattle.atom_mach.specs.Core.{machine_of}
 use Rattle.atom_mach.specs.Step.{prompt_text, with_read}

@@ -4,7 +4,7 @@ use Rattle.atom_mach.specs.declared.step.AStep.TheVariants.{Instr, Intr, Session
 use Rattle.atom_mach.specs.Core.{state_of}
 use Rattle.atom_mach.specs.State.{State}
 use Rattle.atom_mach.specs.Step.{does}
-use Rattle.atom_mach.proofs.Moved.{made, refused, unmoved, silent}
+use Rattle.atom_mach.proofs.Moved.{made, refused, unmoved}
 use Rattle.atom_mach.proofs.Allowed.{alone_of}
 use Rattle.atom_mach.proofs.FirstSteps.{some_allowed, first_allowed-Intr, first_allowed-Session, first_allowed-Instr, first_allowed-AllHalted, first_allowed-StepLimit}
 use Rattle.atom_mach.proofs.LessWork.{less-Intr, less-Session, less-Instr, less-AllHalted, less-StepLimit}
