@@ -5,10 +5,11 @@ use Rattle.std.specs.Prelude.{slice_get, option_map, replicate}
 use Rattle.std.specs.List.{AllByRecursion}
 use Rattle.mach_base.specs.declared.memory_range.Segment.{Segment}
 use Rattle.mach_base.specs.Machine.{AreSegments, Part, is_text_segment}
+use Rattle.mem_map.specs.Parts.{IsWhole, segments_of, parts_of as joined}
 use Rattle.img_text.specs.declared.blocks.Block.{Block}
 use Rattle.img_text.specs.Blocks.{parts_of}
 use Rattle.img_text.specs.Reading.{has_text}
-use Rattle.img_text.specs.Image.{IsImage, IsWhole, segments_of, joined, filled}
+use Rattle.img_text.specs.Image.{HasBytes, IsImage, filled}
 
 -- whether text is among the segments from a place on
 pub has_text-at : (blocks : List Block) (i : ℕ) (b : Block) → i < length blocks → b ≡ get_or blocks i b → has_text (segments_of (parts_of (drop i blocks))) ≡ (is_text_segment (Some b.segment) || has_text (segments_of (parts_of (drop (i + 1) blocks))))
@@ -63,11 +64,12 @@ are_zeros zero = tt
 are_zeros (suc n) = (omega arith, are_zeros n)
 
 -- a segment that is filled up has all its bytes
-pub IsWhole-filled : (s : Segment) (bytes : List ℕ) → length bytes ≤ s.len → ((k : ℕ) → get_or bytes k 0 < 256) → IsWhole (filled s bytes)
-IsWhole-filled s bytes fits each = record {
-  long = rw (length-append, length-replicate) (omega arith);
-  each = AllByRecursion-both (λ b. b < 256) bytes (replicate (s.len - length bytes) 0) (are_bytes bytes each) (are_zeros (s.len - length bytes));
-}
+IsWhole-filled : (s : Segment) (bytes : List ℕ) → length bytes ≤ s.len → IsWhole (filled s bytes)
+IsWhole-filled s bytes fits = rw (length-append, length-replicate) (omega arith)
+
+HasBytes-filled : (s : Segment) (bytes : List ℕ) → ((k : ℕ) → get_or bytes k 0 < 256) → HasBytes (filled s bytes)
+HasBytes-filled s bytes each =
+    AllByRecursion-both (λ b. b < 256) bytes (replicate (s.len - length bytes) 0) (are_bytes bytes each) (are_zeros (s.len - length bytes))
 
 -- an image with one more segment
 pub IsImage-add : (ss : List Segment) (cs : List (List ℕ)) (s : Segment) (bytes : List ℕ) (pcs sps : List (Option ℕ)) → length cs ≡ length ss → IsImage (record { parts = joined ss cs; pcs = pcs; sps = sps }) → AreSegments (segments_of (joined ss cs) ++ s ∷ []) → length bytes ≤ s.len → ((k : ℕ) → get_or bytes k 0 < 256) → IsImage (record { parts = joined (ss ++ s ∷ []) (cs ++ (bytes ++ replicate (s.len - length bytes) 0) ∷ []); pcs = pcs; sps = sps })
@@ -75,7 +77,8 @@ IsImage-add ss cs s bytes pcs sps same image rules fits each =
     let push = joined-push ss cs s (bytes ++ replicate (s.len - length bytes) 0) same in
     record {
       segments = rw push (rw (segments_of-push (joined ss cs) (filled s bytes)) rules);
-      whole = rw push (AllByRecursion-push IsWhole (joined ss cs) (filled s bytes) image.whole (IsWhole-filled s bytes fits each));
+      whole = rw push (AllByRecursion-push IsWhole (joined ss cs) (filled s bytes) image.whole (IsWhole-filled s bytes fits));
+      bytes = rw push (AllByRecursion-push HasBytes (joined ss cs) (filled s bytes) image.bytes (HasBytes-filled s bytes each));
       pcs = image.pcs;
       sps = image.sps;
     }

@@ -16,7 +16,8 @@ use Rattle.img_text.specs.declared.directive.Width.TheVariants.{Eight}
 use Rattle.img_text.specs.declared.directive.Directive.{Directive}
 use Rattle.img_text.specs.declared.directive.Directive.TheVariants.{Begin, Put, Pc, Sp}
 use Rattle.mach_base.specs.Lines.{lines_of, words_of}
-use Rattle.img_text.specs.Image.{ImageRecord, IsImage, IsWhole, segments_of, filled}
+use Rattle.mem_map.specs.Parts.{IsWhole, segments_of}
+use Rattle.img_text.specs.Image.{ImageRecord, HasBytes, IsImage, filled}
 use Rattle.img_text.specs.Directives.{◌>>=◌, line_of, directive_of, has_count, least_of, most_of, largest_of, is_comment}
 use Rattle.img_text.specs.Reading.{Draft, start, end_of, value_bytes, applied, after_line, read_line, read_lines, has_text, whole_image, no_starts, is_header, image_of_lines, image_of}
 use Rattle.img_text.specs.Writing.{name_of, directive_text, values_of, values_text, part_text, parts_text, starts_text, image_text, StartFits}
@@ -166,12 +167,12 @@ unfolding applied
 begin-one s ps pcs sps bounds order =
     rw (eq-eqb _ _ bounds.0, eq-eqb _ _ bounds.1, lt-ltb _ _ bounds.2, le-leb _ _ bounds.3, le-leb _ _ order) refl
 
-Reads-part : (p : Part) (ps : List Part) (pcs sps : List (Option ℕ)) → HasBounds p.segment → end_of ps ≤ p.segment.base → IsWhole p → Reads (drafted ps pcs sps) (part_text p) (drafted (p ∷ ps) pcs sps)
+Reads-part : (p : Part) (ps : List Part) (pcs sps : List (Option ℕ)) → HasBounds p.segment → end_of ps ≤ p.segment.base → IsWhole p → HasBytes p → Reads (drafted ps pcs sps) (part_text p) (drafted (p ∷ ps) pcs sps)
 unfolding part_text
-Reads-part p ps pcs sps bounds order whole =
+Reads-part p ps pcs sps bounds order whole each =
     let s = p.segment in
     let count = length p.bytes / 8 in
-    let long : length p.bytes ≡ s.len = whole.long in
+    let long : length p.bytes ≡ s.len = whole in
     let aligned : s.len % 8 ≡ 0 = bounds.1 in
     let eights : length p.bytes ≡ 8 * count = eighths (length p.bytes) (ap (λ n. n % 8) long ∙ aligned) in
     let top : s.base + s.len ≤ 2 ^ 63 = bounds.3 in
@@ -182,9 +183,9 @@ Reads-part p ps pcs sps bounds order whole =
     let numbers : HasNumbers (Begin s.kind) (s.base ∷ s.len ∷ []) = record { fits = (base_fits, (len_fits, tt)); small = (base_small, (len_small, tt)); count = refl } in
     let first = Reads-directive (drafted ps pcs sps) (drafted (with_bytes s [] ∷ ps) pcs sps) (name_of s.kind) (Begin s.kind) (s.base ∷ s.len ∷ []) (IsName-kind s.kind) numbers (begin-one s ps pcs sps bounds order) in
     let room : 0 + 8 * length (values_of count p.bytes) ≤ s.len = omega (arith, length-values_of count p.bytes) in
-    let values = Reads-values (values_of count p.bytes) s [] ps pcs sps room (AllFit-values_of count p.bytes whole.each) in
+    let values = Reads-values (values_of count p.bytes) s [] ps pcs sps room (AllFit-values_of count p.bytes each) in
     let P : List ℕ → Type 0 = λ bs. Reads (drafted ps pcs sps) (directive_text (name_of s.kind) (s.base ∷ s.len ∷ []) ++ values_text (values_of count p.bytes)) (drafted (with_bytes s bs ∷ ps) pcs sps) in
-    subst P (value_bytes-values_of count p.bytes eights whole.each)
+    subst P (value_bytes-values_of count p.bytes eights each)
     (Reads-both (drafted ps pcs sps) (drafted (with_bytes s [] ∷ ps) pcs sps) (drafted (with_bytes s (flat_map (value_bytes Eight) (values_of count p.bytes)) ∷ ps) pcs sps) (directive_text (name_of s.kind) (s.base ∷ s.len ∷ [])) (values_text (values_of count p.bytes)) first values)
   where
     eighths : (n : ℕ) → n % 8 ≡ 0 → n ≡ 8 * (n / 8)
@@ -193,12 +194,12 @@ Reads-part p ps pcs sps bounds order whole =
 reverse-cons : (p : Part) (ps before : List Part) → reverse (p ∷ ps) ++ before ≡ reverse ps ++ (p ∷ before)
 reverse-cons p ps before = ap (λ qs. qs ++ before) (reverse-append (p ∷ []) ps) ∙ append_assoc (reverse ps) (p ∷ []) before
 
-Reads-parts : (parts before : List Part) (pcs sps : List (Option ℕ)) → AllByRecursion HasBounds (segments_of parts) → AreInOrder (end_of before) (segments_of parts) → AllByRecursion IsWhole parts → Reads (drafted before pcs sps) (parts_text parts) (drafted (reverse parts ++ before) pcs sps)
+Reads-parts : (parts before : List Part) (pcs sps : List (Option ℕ)) → AllByRecursion HasBounds (segments_of parts) → AreInOrder (end_of before) (segments_of parts) → AllByRecursion IsWhole parts → AllByRecursion HasBytes parts → Reads (drafted before pcs sps) (parts_text parts) (drafted (reverse parts ++ before) pcs sps)
 unfolding parts_text
-Reads-parts [] before pcs sps bounds order whole = Reads-none (drafted before pcs sps)
-Reads-parts (p ∷ ps) before pcs sps bounds order whole =
-    let first = Reads-part p before pcs sps bounds.0 order.0 whole.0 in
-    let rest = Reads-parts ps (p ∷ before) pcs sps bounds.1 order.1 whole.1 in
+Reads-parts [] before pcs sps bounds order whole each = Reads-none (drafted before pcs sps)
+Reads-parts (p ∷ ps) before pcs sps bounds order whole each =
+    let first = Reads-part p before pcs sps bounds.0 order.0 whole.0 each.0 in
+    let rest = Reads-parts ps (p ∷ before) pcs sps bounds.1 order.1 whole.1 each.1 in
     let P : List Part → Type 0 = λ qs. Reads (drafted before pcs sps) (part_text p ++ parts_text ps) (drafted qs pcs sps) in
     subst P (sym (reverse-cons p ps before))
     (Reads-both (drafted before pcs sps) (drafted (p ∷ before) pcs sps) (drafted (reverse ps ++ (p ∷ before)) pcs sps) (part_text p) (parts_text ps) first rest)
@@ -261,7 +262,7 @@ Reads-all image rules pcs_fit sps_fit =
     let start = drafted [] no_starts no_starts in
     let parts = reverse image.parts in
     let P : List Part → Type 0 = λ qs. Reads start (parts_text image.parts) (drafted qs no_starts no_starts) in
-    let first = subst P (nothing_behind parts) (Reads-parts image.parts [] no_starts no_starts rules.segments.bounds rules.segments.order rules.whole) in
+    let first = subst P (nothing_behind parts) (Reads-parts image.parts [] no_starts no_starts rules.segments.bounds rules.segments.order rules.whole rules.bytes) in
     let pcs = Reads-starts (codes "pc") Pc (λ pcs. drafted parts pcs no_starts) (IsKind-pc parts no_starts) image.pcs [] 0 refl (omega (arith, rules.pcs)) pcs_fit in
     let sps = Reads-starts (codes "sp") Sp (λ sps. drafted parts image.pcs sps) (IsKind-sp parts image.pcs) image.sps [] 0 refl (omega (arith, rules.sps)) sps_fit in
     let Q : ℕ → Type 0 = λ n. Reads (drafted parts (replicate n None) no_starts) (starts_text (codes "pc") 0 image.pcs) (drafted parts image.pcs no_starts) in
@@ -277,7 +278,7 @@ Reads-all image rules pcs_fit sps_fit =
 filled-whole : (parts : List Part) → AllByRecursion IsWhole parts → map (λ (p : Part). filled p.segment p.bytes) parts ≡ parts
 filled-whole [] whole = refl
 filled-whole (p ∷ ps) whole =
-    let none : p.segment.len - length p.bytes ≡ 0 = omega (arith, whole.0.long) in
+    let none : p.segment.len - length p.bytes ≡ 0 = omega (arith, whole.0) in
     let same : p.bytes ++ replicate (p.segment.len - length p.bytes) 0 ≡ p.bytes = rw none (append_nil p.bytes) in
     ap (λ bs. with_bytes p.segment bs ∷ map (λ (q : Part). filled q.segment q.bytes) ps) same ∙ ap (λ qs. p ∷ qs) (filled-whole ps whole.1)
 

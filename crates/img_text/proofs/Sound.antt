@@ -6,7 +6,8 @@ use Rattle.std.specs.List.{AllByRecursion}
 use Rattle.mach_base.specs.declared.memory_range.Segment.{Segment}
 use Rattle.mach_base.specs.Machine.{AreSegments, AreInOrder, HasBounds, memory_size, Part}
 use Rattle.img_text.specs.declared.blocks.Block.{Block}
-use Rattle.img_text.specs.Image.{segments_of, filled}
+use Rattle.mem_map.specs.Parts.{segments_of}
+use Rattle.img_text.specs.Image.{filled}
 use Rattle.img_text.specs.Blocks.{part_of, parts_of}
 use Rattle.img_text.specs.Reading.{AreSound, IsShort, end_of}
 use Rattle.img_text.proofs.Parts.{AllByRecursion-push}

@@ -7,7 +7,7 @@ use Rattle.std.specs.Int.{w64, from_le_bytes}
 use Rattle.mach_base.specs.declared.memory_range.Segment.{Segment}
 use Rattle.mach_base.specs.Machine.{Part}
 use Rattle.mach_base.specs.Number.{dec_text}
-use Rattle.img_text.specs.Image.{segments_of}
+use Rattle.mem_map.specs.Parts.{segments_of}
 use Rattle.img_text.specs.Writing.{numbers_text, directive_text, values_of, values_text, part_text, parts_text, start_text, starts_text, StartFits}
 
 append_nil : (xs : List ℕ) → xs ++ [] ≡ xs

@@ -7,7 +7,8 @@ use Rattle.mach_base.specs.declared.memory_range.Segment.{Segment}
 use Rattle.mach_base.specs.declared.memory_range.Kind.{Kind}
 use Rattle.mach_base.specs.declared.memory_range.Kind.TheVariants.{Text, Data, Rodata}
 use Rattle.hart_ctx.specs.Context.{start_context}
-use Rattle.img_text.specs.Image.{ImageRecord, segments_of}
+use Rattle.mem_map.specs.Parts.{segments_of}
+use Rattle.img_text.specs.Image.{ImageRecord}
 
 abbrev base_if_text : Kind → ℕ → ℕ → ℕ
 base_if_text Text base other = base

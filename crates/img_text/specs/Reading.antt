@@ -16,7 +16,8 @@ use Rattle.img_text.specs.declared.directive.Width.{Width}
 use Rattle.img_text.specs.declared.directive.Directive.{Directive}
 use Rattle.img_text.specs.declared.directive.Directive.TheVariants.{Begin, Put, Pc, Sp}
 use Rattle.mach_base.specs.Lines.{lines_of, words_of}
-use Rattle.img_text.specs.Image.{ImageRecord, segments_of, filled}
+use Rattle.mem_map.specs.Parts.{segments_of}
+use Rattle.img_text.specs.Image.{ImageRecord, filled}
 use Rattle.img_text.specs.Directives.{◌>>=◌, line_of, size_of}
 
 -- what the lines so far give: the segments, the latest first, each with the bytes that were put into it, and for each

@@ -4,7 +4,7 @@ ghost use Rattle.std.specs.Prelude.{◌≡◌, ◌+◌, ◌*◌, ◌<◌, ◌≤
 ghost use Rattle.std.specs.List.{flat_map};
 ghost use Rattle.mach_base.specs.Machine.{memory_size, is_text_segment};
 ghost use Rattle.img_text.specs.Directives.{size_of};
-ghost use Rattle.img_text.specs.Image.{segments_of};
+ghost use Rattle.mem_map.specs.Parts.{segments_of};
 ghost use Rattle.img_text.specs.Reading.{AreSound, Leaves, begin, put, end_of, has_bounds, has_text, value_bytes};
 ghost use Rattle.img_text.specs.Blocks.{parts_of, latest_first};
 

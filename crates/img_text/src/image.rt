@@ -17,19 +17,21 @@ pub struct Image {
 
 impl Model for Image {
     ghost use Rattle.std.specs.Prelude.{◌≡◌, map, length};
-    ghost use Rattle.img_text.specs.Image.{ImageRecord, IsImage, joined};
+    ghost use Rattle.mem_map.specs.Parts.{parts_of};
+    ghost use Rattle.img_text.specs.Image.{ImageRecord, IsImage};
 
     ghost Value = { ImageRecord };
 
-    ghost view = { λ i. record { parts = joined i.segments.items (map (λ v. v.items) i.contents.items); pcs = i.pcs; sps = i.sps } };
+    ghost view = { λ i. record { parts = parts_of i.segments.items (map (λ v. v.items) i.contents.items); pcs = i.pcs; sps = i.sps } };
 
-    ghost invariant = { λ i. (length i.contents.items ≡ length i.segments.items) × IsImage (record { parts = joined i.segments.items (map (λ v. v.items) i.contents.items); pcs = i.pcs; sps = i.sps }) };
+    ghost invariant = { λ i. (length i.contents.items ≡ length i.segments.items) × IsImage (record { parts = parts_of i.segments.items (map (λ v. v.items) i.contents.items); pcs = i.pcs; sps = i.sps }) };
 }
 
 impl Image {
     ghost use Rattle.std.specs.Prelude.{◌≡◌, ◌+◌, ◌<◌, ◌≤◌, [], ◌∷◌, ◌++◌, length, map, replicate, OnOk, OnErr, Some, None, slice_set, slice_index_or, slice_get, option_map};
     ghost use Rattle.mach_base.specs.Machine.{AreSegments};
-    ghost use Rattle.img_text.specs.Image.{ImageRecord, IsImage, segments_of, filled};
+    ghost use Rattle.mem_map.specs.Parts.{segments_of};
+    ghost use Rattle.img_text.specs.Image.{ImageRecord, IsImage, filled};
 
     /// An image without a segment and without starts. It takes no memory.
     pub fn new(alloc: Global) -> Image

@@ -4,7 +4,8 @@ ghost use Rattle.std.specs.Prelude.{◌≡◌, ◌≤◌, ◌<◌, [], length, m
 ghost use Rattle.std.specs.List.{AllByRecursion};
 ghost use Rattle.mach_base.specs.Machine.{AreSegments};
 ghost use Rattle.mach_base.specs.Lines.{lines_of, words_of};
-ghost use Rattle.img_text.specs.Image.{segments_of, filled};
+ghost use Rattle.mem_map.specs.Parts.{segments_of};
+ghost use Rattle.img_text.specs.Image.{filled};
 ghost use Rattle.img_text.specs.Directives.{least_of};
 ghost use Rattle.img_text.specs.Reading.{AreSound, IsShort, Leaves, Gives, start, applied, numbered, read_line, read_lines, whole_image, is_header, image_of};
 ghost use Rattle.img_text.specs.Blocks.{parts_of, latest_first};

@@ -3,7 +3,8 @@
 ghost use Rattle.std.specs.Prelude.{◌≡◌, ◌+◌, ◌*◌, ◌/◌, ◌<◌, ◌++◌, length, Ok, IsTrue, IfOk, OnOk};
 ghost use Rattle.std.specs.Int.{w64, from_le_bytes};
 ghost use Rattle.std.specs.List.{AllByRecursion};
-ghost use Rattle.img_text.specs.Image.{IsImage, segments_of};
+ghost use Rattle.mem_map.specs.Parts.{segments_of};
+ghost use Rattle.img_text.specs.Image.{IsImage};
 ghost use Rattle.img_text.specs.Reading.{has_text, image_of};
 ghost use Rattle.img_text.specs.Writing.{name_of, directive_text, values_of, values_text, part_text, parts_text, start_text, starts_text, image_text, StartFits};
 

@@ -1,5 +1,5 @@
 use Rattle.std.proofs.Common.{◌≡◌, drop}
-use Rattle.img_text.specs.Image.{segments_of}
+use Rattle.mem_map.specs.Parts.{segments_of}
 use Rattle.img_text.specs.Reading.{has_text}
 use Rattle.img_text.specs.Blocks.{parts_of}
 use Rattle.img_text.proofs.blocks.has_text.Given as goal
