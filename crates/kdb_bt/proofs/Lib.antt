@@ -1,3 +1,4 @@
 pub mod Chain
 pub mod Words
 pub mod Bytes
+pub mod Longest

@@ -10,8 +10,10 @@
 #![tactic(auto)]
 
 mod frame;
+mod laws;
 mod show;
 #[cfg(test)]
 mod tests;
 
+pub use laws::{frames_are_the_longest_chain, frames_are_unique};
 pub use show::show_frames;
