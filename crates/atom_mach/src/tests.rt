@@ -160,3 +160,53 @@ fn a_session_with_late_harts_opens_again(rt: HostRuntime) -> Result<(), Fail> {
     assert_eq!(rt; (atom.steps(), atom.over()), (2, Some(Ending::ScriptEnd)));
     Ok(())
 }
+
+/// The steps of all harts count together, and nobody steps past the limit.
+#[test]
+fn the_limit_is_one_for_all_harts(rt: HostRuntime) -> Result<(), Fail> {
+    let mut atom = machine(rt.alloc(), TWO_AND_HALT, b"go\n", 2, 2)?;
+    let banner = "Entering kdb on processor 0 due to Start @ 0x0000000000001000\n[0]kdb> go\n";
+    steps_print(
+        &rt,
+        &mut atom,
+        &[
+            (AStep::Session(Hart(0)), Some(banner)),
+            (AStep::Instr(Hart(0)), Some("")),
+            (AStep::Off(Ending::StepLimit), None),
+            (AStep::Instr(Hart(1)), Some("")),
+            (AStep::Instr(Hart(0)), None),
+            (AStep::Instr(Hart(1)), None),
+            (AStep::Off(Ending::AllHalted), None),
+            (AStep::Off(Ending::PlanEnd), None),
+            (AStep::Off(Ending::StepLimit), Some("")),
+        ],
+    );
+    assert_eq!(rt; (atom.steps(), atom.over()), (2, Some(Ending::StepLimit)));
+    Ok(())
+}
+
+/// Fifteen of sixteen harts are late; the seventeenth is none.
+#[test]
+fn sixteen_harts_enter(rt: HostRuntime) -> Result<(), Fail> {
+    let mut atom = machine(rt.alloc(), TWO_AND_HALT, b"cpu\n", 16, 1000)?;
+    let banner =
+        "Timed out waiting for secondary CPUs: 1 2 3 4 5 6 7 8 9 10 11 12 13 14 15\nEntering kdb on processor 0 due to Start @ 0x0000000000001000\n";
+    steps_print(
+        &rt,
+        &mut atom,
+        &[
+            (AStep::Enter(Hart(0), 0x1fffe), None),
+            (AStep::Enter(Hart(16), 2), None),
+            (AStep::Enter(Hart(0), 0xfffe), Some(banner)),
+            (AStep::Instr(Hart(16)), None),
+            (AStep::Instr(Hart(15)), Some("")),
+            (
+                AStep::Line,
+                Some("[0]kdb> cpu\nCurrently on cpu 0\nAvailable cpus: 0\n"),
+            ),
+            (AStep::Off(Ending::ScriptEnd), Some("[0]kdb> \n")),
+        ],
+    );
+    assert_eq!(rt; (atom.steps(), atom.over()), (1, Some(Ending::ScriptEnd)));
+    Ok(())
+}

@@ -4,7 +4,7 @@ use Rattle.mach_base.specs.Texts.{newline}
 use Rattle.kdb_cmd.specs.declared.diagnostics.Diagnostic.{Diagnostic}
 use Rattle.kdb_cmd.specs.declared.diagnostics.Diagnostic.TheVariants.{WrongArguments}
 
--- how each command is written: E is an expression, N a decimal number, W a width of 1, 2, 4 or 8
+-- how each command is written: E is an expression, N a number, W a width of 1, 2, 4 or 8
 unfoldable pub usages : List (List ℕ)
 usages =
     codes "md E [E]" ∷ codes "mdW E [E]" ∷ codes "mdWcN E" ∷ codes "mdr E E" ∷ codes "mds E [E]"
