@@ -45,7 +45,7 @@ use Rattle.kdb_cmd.specs.ChangedMemory.{mm_wanted, memory_set, mm_answer}
 use Rattle.kdb_cmd.specs.Registers.{rm_wanted, register_set, rm_answer}
 use Rattle.kdb_cmd.specs.Variables.{pair_wanted, variables_unless, variables_set, set_answer}
 use Rattle.kdb_cmd.specs.Breakpoints.{Places, bl_marked, placed, placed_at, bp_marked, changed, changed_at, changed_first, changed_lines, changed_or, one_changed, number_changed, word_changed, mark_marked, breakpoints_marked}
-use Rattle.kdb_cmd.specs.Processors.{cpu_text, processor_wanted, moved, cpu_answer}
+use Rattle.kdb_cmd.specs.Processors.{cpu_chosen}
 use Rattle.kdb_cmd.specs.Leaving.{pc_wanted, with_pc, left, go_answer, ss_refusal, step_unless}
 use Rattle.kdb_cmd.specs.Commands.{showing, shown_text, command_answer, answer_if_known, words_meaning, answer_or_line}
 use Rattle.kdb_cmd.specs.Spellings.{command_of}
@@ -245,13 +245,8 @@ with_current-keeps s n = record {
   limits = λ l. record { places = l.places; variables = l.variables; macros = l.macros; lines = l.lines };
 }
 
-cpu-keeps : (gathered : ℕ) (s : LineState) (words : List (List ℕ)) → Kept s (cpu_answer gathered s words)
-unfolding cpu_answer
-cpu-keeps gathered s words =
-    let shows : Result Answer Diagnostic = Ok (showing s (cpu_text gathered s.current)) in
-    let moves : Result Answer Diagnostic = processor_wanted gathered words >>= moved s in
-    let kept : Kept s moves = after_any (λ (answer : Answer). Keeps s answer.state) (processor_wanted gathered words) (moved s) (λ n. with_current-keeps s n) in
-    either s (eqb (length words) 1) shows (cond (eqb (length words) 2) moves (Err diagnostic.WrongArguments)) (Keeps-same s) (either s (eqb (length words) 2) moves (Err diagnostic.WrongArguments) kept tt)
+cpu-keeps : (gathered : ℕ) (s : LineState) (words : List (List ℕ)) → Kept s (cpu_chosen gathered s.current words >>= λ chosen. Ok (showing (record s { current = chosen.current }) chosen.text))
+cpu-keeps gathered s words = after_any (λ (answer : Answer). Keeps s answer.state) (cpu_chosen gathered s.current words) _ (λ chosen. with_current-keeps s chosen.current)
 
 -- `ss` and `go`
 step_unless-keeps : (o : Option Diagnostic) (s : LineState) → Kept s (step_unless o s)

@@ -18,7 +18,7 @@ use Rattle.kdb_cmd.specs.Variables.{env_text, set_answer}
 use Rattle.kdb_cmd.specs.ChangedMemory.{mm_answer}
 use Rattle.kdb_cmd.specs.Leaving.{go_answer, ss_answer}
 use Rattle.kdb_cmd.specs.Breakpoints.{breakpoints_marked}
-use Rattle.kdb_cmd.specs.Processors.{cpu_answer, bt_text, btc_text}
+use Rattle.kdb_cmd.specs.Processors.{cpu_chosen, bt_text, btc_text}
 use Rattle.kdb_cmd.specs.Help.{help_text}
 
 -- what a command shows, where these processors are in the session
@@ -44,7 +44,7 @@ command_answer g (Mm width) s words = mm_answer s width words
 command_answer g Rm s words = rm_answer s words
 command_answer g Set s words = set_answer s words
 command_answer g (Break breaking) s words = breakpoints_marked s breaking words >>= λ marked. Ok (showing (record s { places = marked.breaks }) marked.text)
-command_answer g Cpu s words = cpu_answer g.gathered s words
+command_answer g Cpu s words = cpu_chosen g.gathered s.current words >>= λ chosen. Ok (showing (record s { current = chosen.current }) chosen.text)
 command_answer g Ss s words = ss_answer g.entry s words
 command_answer g Go s words = go_answer g.entry s words
 

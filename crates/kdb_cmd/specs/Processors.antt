@@ -9,8 +9,8 @@ use Rattle.kdb_bt.specs.Frames.{frames_of}
 use Rattle.kdb_bt.specs.Texts.{frames_text}
 use Rattle.kdb_cmd.specs.declared.diagnostics.Diagnostic.{Diagnostic}
 use Rattle.kdb_cmd.specs.declared.diagnostics.Diagnostic.TheVariants.{WrongArguments, BadNumber, BadProcessor}
-use Rattle.kdb_cmd.specs.declared.outcomes.Outcome.TheVariants.{Stay}
-use Rattle.kdb_cmd.specs.LineState.{LineState, Answer, current_context}
+use Rattle.kdb_cmd.specs.declared.processors.Chosen.{Chosen}
+use Rattle.kdb_cmd.specs.LineState.{LineState, current_context}
 use Rattle.kdb_cmd.specs.Diagnostics.{word_at}
 use Rattle.kdb_cmd.specs.Refused.{◌>>=◌}
 
@@ -53,14 +53,14 @@ unfoldable pub processor_wanted : ℕ → List (List ℕ) → Result ℕ Diagnos
 processor_wanted gathered words = gathered_or gathered (number_of 10 (word_at words 1))
 
 -- a processor becomes the current one
-abbrev pub moved : LineState → ℕ → Result Answer Diagnostic
-moved s n = Ok (record { output = current_line n; state = record s { current = n }; outcome = Stay })
+abbrev pub moved : ℕ → Result Chosen Diagnostic
+moved n = Ok (record { text = current_line n; current = n })
 
--- `cpu [N]`
-unfoldable pub cpu_answer : ℕ → LineState → List (List ℕ) → Result Answer Diagnostic
-cpu_answer gathered s words =
-    if length words == 1 then Ok (record { output = cpu_text gathered s.current; state = s; outcome = Stay })
-    else if length words == 2 then (processor_wanted gathered words >>= moved s)
+-- `cpu [N]`, where these processors are in the session and this one is current
+unfoldable pub cpu_chosen : ℕ → ℕ → List (List ℕ) → Result Chosen Diagnostic
+cpu_chosen gathered current words =
+    if length words == 1 then Ok (record { text = cpu_text gathered current; current = current })
+    else if length words == 2 then (processor_wanted gathered words >>= moved)
     else Err WrongArguments
 
 -- the frames of a context

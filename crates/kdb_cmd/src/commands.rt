@@ -109,7 +109,11 @@ fn command_answer<P: Peek>(
             kdb.breaks = marked.breaks;
             Ok(stay(marked.text))
         }
-        Command::Cpu => cpu(alloc, mem, ctxs, kdb, names, gathering.gathered, words),
+        Command::Cpu => {
+            let chosen = cpu(alloc, gathering.gathered, kdb.current, words)?;
+            kdb.current = chosen.current;
+            Ok(stay(chosen.text))
+        }
         Command::Ss => {
             let view = View {
                 mem,

@@ -1,13 +1,13 @@
 ghost use Rattle.std.specs.Prelude.{◌≡◌, ◌++◌, ◌<◌, ◌^◌, true, length, OnOk, IfOk};
 ghost use Rattle.mach_base.specs.Texts.{has_bit};
 ghost use Rattle.kdb_cmd.specs.State.{state_of};
-ghost use Rattle.kdb_cmd.specs.Refused.{Answers, Changes};
-ghost use Rattle.kdb_cmd.specs.Processors.{is_gathered, number_text, numbers_text, current_line, available_line, cpu_text, processor_wanted, cpu_answer, bt_text, processor_frames, frames_below, btc_text};
+ghost use Rattle.kdb_cmd.specs.Refused.{Answers};
+ghost use Rattle.kdb_cmd.specs.Processors.{is_gathered, number_text, numbers_text, current_line, available_line, cpu_text, processor_wanted, cpu_chosen, bt_text, processor_frames, frames_below, btc_text};
 
+use crate::Diagnostic;
 use crate::diagnostics::word_at;
 use crate::refusals::Refusal;
 use crate::views::View;
-use crate::{Diagnostic, Kdb, Outcome, Said};
 use hart_ctx::Context;
 use kdb_bt::show_frames;
 use mach_base::{
@@ -101,27 +101,23 @@ fn processor_wanted(gathered: u64, words: &[Text]) -> Result<u8, Diagnostic>
     }
 }
 
-/// `cpu [N]`.
-#[tactic(auto, unfolding(crate::specs::Processors::cpu_answer))]
-pub fn cpu<P: Peek>(
-    alloc: Global,
-    mem: &P,
-    ctxs: &[Context],
-    kdb: &mut Kdb,
-    names: &Symbols,
-    gathered: u64,
-    words: &[Text],
-) -> Result<Said, Refusal>
-    requires current_before { has_bit gathered kdb.old.current ≡ true }
-    ensures answer { Changes result (state_of ctxs.now (P.memory mem.now) kdb.old names.now) (state_of ctxs.now (P.memory mem.now) kdb.new names.now) (cpu_answer gathered (state_of ctxs.now (P.memory mem.now) kdb.old names.now) words.now) }
-    ensures current { has_bit gathered kdb.new.current ≡ true }
+/// What `cpu` prints, and the processor that is current behind it.
+#[derive(Debug, Drop)]
+pub struct Chosen {
+    pub text: Text,
+    pub current: u8,
+}
+
+/// `cpu [N]`, where this processor is current.
+#[tactic(auto, unfolding(crate::specs::Processors::cpu_chosen))]
+pub fn cpu(alloc: Global, gathered: u64, current: u8, words: &[Text]) -> Result<Chosen, Refusal>
+    requires { has_bit gathered current ≡ true }
+    ensures answer { Answers result (cpu_chosen gathered current words.now) }
+    ensures gathered { IfOk result (λ chosen. has_bit gathered chosen.current ≡ true) }
 {
     if words.len() == 1 {
-        let text = cpu_text(alloc, gathered, kdb.current)?;
-        return Ok(Said {
-            text,
-            outcome: Outcome::Stay,
-        });
+        let text = cpu_text(alloc, gathered, current)?;
+        return Ok(Chosen { text, current });
     }
     if words.len() != 2 {
         return Err(Refusal::Diagnosed(Diagnostic::WrongArguments));
@@ -129,10 +125,9 @@ pub fn cpu<P: Peek>(
     let number = processor_wanted(gathered, words)?;
     let mut out = Vec::new(alloc);
     push_current(&mut out, u64::from(number))?;
-    kdb.current = number;
-    Ok(Said {
+    Ok(Chosen {
         text: Text::from_vec(out),
-        outcome: Outcome::Stay,
+        current: number,
     })
 }
 
