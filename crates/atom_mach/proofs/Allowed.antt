@@ -1,25 +1,20 @@
 -- Which steps are allowed, step by step.
-use Rattle.std.proofs.Common.{◌≡◌, ◌≢◌, ℕ, zero, suc, ◌^◌, ◌<◌, ◌==◌, ◌&&◌, ◌||◌, Bool, true, false, not, cond, IsTrue, ◌++◌, length, Option, Some, None, nat_lt, refl, sym, ap, ◌∙◌, arith, rules}
+use Rattle.std.proofs.Common.{◌≡◌, ◌≢◌, ℕ, zero, suc, ◌<◌, ◌==◌, ◌&&◌, ◌||◌, true, false, IsTrue, ◌++◌, Some, None, refl, sym, ap, ◌∙◌, arith, rules}
 use Rattle.std.proofs.lemmas.Bool.{false≢true}
 use Rattle.mach_base.specs.Machine.{Machine}
 use Rattle.mach_base.specs.declared.event.Hart.{Hart}
 use Rattle.mach_base.specs.declared.event.Reason.{Reason}
 use Rattle.mach_base.specs.declared.event.Ending.TheVariants.{ScriptEnd}
-use Rattle.mach_base.specs.Texts.{newline, has_bit}
+use Rattle.mach_base.specs.Texts.{newline}
+use Rattle.mach_base.specs.Masks.{has_bit}
 use Rattle.atom_mach.specs.declared.step.Mode.{Mode}
 use Rattle.atom_mach.specs.declared.step.Mode.TheVariants.{Free, Hold, Pass, Back, Leave, Over}
 use Rattle.atom_mach.specs.declared.step.AStep.TheVariants.{Instr, Session, Enter, Line, End, Off}
-use Rattle.atom_mach.specs.State.{State}
-use Rattle.atom_mach.specs.Step.{Done, does, is_hart, may_run, may_pass, opening, opened_for, held_for, session, held_line, closed, holds_at_end, prompt_text}
+use Rattle.atom_mach.specs.State.{hart_count, State}
 use Rattle.atom_mach.specs.Modes.{Fits, IsSitting, IsGathered, ReadsWith, is_alone}
-use Rattle.atom_mach.proofs.Steps.{cond_true, cond_false}
-
-and_first : (a b : Bool) → a ≡ false → (a && b) ≡ false
-and_first a b e = rw e refl
-
-either_none : (b : Bool) → ◌≡◌ {A = Option Done} (cond b None None) None
-either_none true = refl
-either_none false = refl
+use Rattle.atom_mach.specs.Session.{is_hart, opening_reason, session, prompt_text}
+use Rattle.atom_mach.specs.Step.{does, may_run, may_pass, opened_for, held_for, held_line, closed, holds_at_end, can_be_late}
+use Rattle.atom_mach.proofs.Booleans.{cond_true, cond_false, and_first, either_none}
 
 -- a hart that isn't there does nothing
 pub does-Instr-no_hart : (s : State) (h : Hart) → is_hart s.machine h.0 ≡ false → does s (Instr h) ≡ None
@@ -31,37 +26,33 @@ unfolding does
 does-Session-no_hart s h e = cond_false (is_hart s.machine h.0) _ _ e
 
 -- without a reason no session opens
-pub does-Session-none : (s : State) (h : Hart) → opening s.mode s.machine h.0 0 ≡ None → does s (Session h) ≡ None
+pub does-Session-none : (s : State) (h : Hart) → opening_reason s.mode s.machine h.0 0 ≡ None → does s (Session h) ≡ None
 unfolding does
 does-Session-none s h e = rw e (either_none (is_hart s.machine h.0))
 
 -- with a reason it opens
-pub does-Session : (s : State) (h : Hart) (reason : Reason) → is_hart s.machine h.0 ≡ true → opening s.mode s.machine h.0 0 ≡ Some reason → does s (Session h) ≡ Some (session s.machine h reason)
+pub does-Session : (s : State) (h : Hart) (reason : Reason) → is_hart s.machine h.0 ≡ true → opening_reason s.mode s.machine h.0 0 ≡ Some reason → does s (Session h) ≡ Some (session s.machine h reason)
 unfolding does
 does-Session s h reason e f = cond_true (is_hart s.machine h.0) _ _ e ∙ ap (opened_for s h) f
-
--- whether these harts can be late in a session of this master
-abbrev pub can_be_late : State → Hart → ℕ → Bool
-can_be_late s m late = is_hart s.machine m.0 && (not (late == 0) && (nat_lt late (2 ^ length s.machine.harts) && not (has_bit late m.0)))
 
 pub does-Enter-not : (s : State) (m : Hart) (late : ℕ) → can_be_late s m late ≡ false → does s (Enter m late) ≡ None
 unfolding does
 does-Enter-not s m late e = cond_false (can_be_late s m late) _ _ e
 
-pub does-Enter-none : (s : State) (m : Hart) (late : ℕ) → opening s.mode s.machine m.0 late ≡ None → does s (Enter m late) ≡ None
+pub does-Enter-none : (s : State) (m : Hart) (late : ℕ) → opening_reason s.mode s.machine m.0 late ≡ None → does s (Enter m late) ≡ None
 unfolding does
 does-Enter-none s m late e = rw e (either_none (can_be_late s m late))
 
-pub does-Enter : (s : State) (m : Hart) (late : ℕ) (reason : Reason) → can_be_late s m late ≡ true → opening s.mode s.machine m.0 late ≡ Some reason → does s (Enter m late) ≡ held_for s m late (Some reason)
+pub does-Enter : (s : State) (m : Hart) (late : ℕ) (reason : Reason) → can_be_late s m late ≡ true → opening_reason s.mode s.machine m.0 late ≡ Some reason → does s (Enter m late) ≡ held_for s m late (Some reason)
 unfolding does
 does-Enter s m late reason e f = cond_true (can_be_late s m late) _ _ e ∙ ap (held_for s m late) f
 
 -- late harts that can be late are a sitting's
-pub can_be_late-sitting : (s : State) (m : Hart) (late : ℕ) → can_be_late s m late ≡ true → IsSitting (length s.machine.harts) m late × (late ≢ 0)
+pub can_be_late-sitting : (s : State) (m : Hart) (late : ℕ) → can_be_late s m late ≡ true → IsSitting (hart_count s.machine) m late × (late ≢ 0)
 can_be_late-sitting s m late e = search rules
 
 -- no session opens beside one with late harts
-pub opening_free : (mode : Mode) (s : Machine) (m late : ℕ) (reason : Reason) (current : ℕ) → opening mode s m late ≡ Some reason → IsGathered mode current
+pub opening_free : (mode : Mode) (s : Machine) (m late : ℕ) (reason : Reason) (current : ℕ) → opening_reason mode s m late ≡ Some reason → IsGathered mode current
 opening_free Free s m late reason current e = tt
 opening_free (Hold k was) s m late reason current e = absurd (cc)
 opening_free (Pass k was again) s m late reason current e = tt
@@ -69,7 +60,7 @@ opening_free (Back k was) s m late reason current e = tt
 opening_free (Leave k was) s m late reason current e = tt
 opening_free (Over ending) s m late reason current e = tt
 
-pub opening_reads : (mode : Mode) (s : Machine) (m late : ℕ) (reason : Reason) (read_with : ℕ) → opening mode s m late ≡ Some reason → ReadsWith mode read_with
+pub opening_reads : (mode : Mode) (s : Machine) (m late : ℕ) (reason : Reason) (read_with : ℕ) → opening_reason mode s m late ≡ Some reason → ReadsWith mode read_with
 opening_reads Free s m late reason read_with e = tt
 opening_reads (Hold k was) s m late reason read_with e = absurd (cc)
 opening_reads (Pass k was again) s m late reason read_with e = tt
@@ -104,9 +95,10 @@ pub does-ScriptEnd-not : (s : State) → holds_at_end s.mode s.machine.unread �
 unfolding does
 does-ScriptEnd-not s e = cond_false (holds_at_end s.mode s.machine.unread) _ _ e
 
--- with one hart nobody is late
+-- with one hart none is late
 
 none_late : (late : ℕ) → late < 2 → has_bit late 0 ≡ false → late ≡ 0
+unfolding has_bit
 none_late zero lt e = refl
 none_late (suc zero) lt e = absurd (false≢true (sym e))
 none_late (suc (suc late)) lt e = absurd (omega arith)

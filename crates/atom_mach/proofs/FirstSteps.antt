@@ -12,12 +12,15 @@ use Rattle.hart_ctx.specs.Context.{start_context}
 use Rattle.atom_mach.specs.declared.step.Mode.{Mode}
 use Rattle.atom_mach.specs.declared.step.Mode.TheVariants.{Free, Hold, Pass, Back, Leave, Over}
 use Rattle.atom_mach.specs.declared.step.AStep.TheVariants.{Instr, Intr, Session, Off}
-use Rattle.atom_mach.specs.State.{State, context_at}
-use Rattle.atom_mach.specs.Step.{Done, does, is_hart, may_run, may_pass, may_take, opening, opened_for, trap, fault_of, all_halted, is_free}
-use Rattle.trap_ipi.specs.Interrupt.{is_takeable}
+use Rattle.atom_mach.specs.State.{State, context_at, Done}
+use Rattle.atom_mach.specs.Traps.{trap, fault_of}
+use Rattle.atom_mach.specs.Modes.{is_free, is_alone, ending_of}
+use Rattle.atom_mach.specs.Session.{is_hart, opening_reason}
+use Rattle.atom_mach.specs.Step.{does, may_run, may_pass, may_take, opened_for, all_halted}
 use Rattle.atom_mach.specs.Run.{first_allowed}
-use Rattle.atom_mach.specs.Modes.{is_alone, ending_of}
-use Rattle.atom_mach.proofs.Steps.{cond_true, and_true, all_halted-one}
+use Rattle.trap_ipi.specs.Interrupt.{is_takeable}
+use Rattle.atom_mach.proofs.Booleans.{cond_true, and_true}
+use Rattle.atom_mach.proofs.Steps.{all_halted-one}
 
 abbrev h0 : Hart
 h0 = record { 0 = 0 }
@@ -57,21 +60,21 @@ opened_none s m (Some r) e = absurd (cc)
 one_is : (n : ℕ) → n ≡ 1 → nat_lt 0 n ≡ true
 one_is n e = rw e refl
 
-behind_true : (a b : Bool) → a ≡ true → (a && b) ≡ false → b ≡ false
-behind_true true b e f = f
-behind_true false b e f = absurd (false≢true e)
+after_true : (a b : Bool) → a ≡ true → (a && b) ≡ false → b ≡ false
+after_true true b e f = f
+after_true false b e f = absurd (false≢true e)
 
-no_session : (s : State) → length s.machine.harts ≡ 1 → does s (Session h0) ≡ None → opening s.mode s.machine 0 0 ≡ None
+no_session : (s : State) → length s.machine.seen.harts ≡ 1 → does s (Session h0) ≡ None → opening_reason s.mode s.machine 0 0 ≡ None
 unfolding does
-no_session s one e = opened_none s h0 _ (sym (cond_true (is_hart s.machine 0) (opened_for s h0 (opening s.mode s.machine 0 0)) None (one_is (length s.machine.harts) one)) ∙ e)
+no_session s one e = opened_none s h0 _ (sym (cond_true (is_hart s.machine 0) (opened_for s h0 (opening_reason s.mode s.machine 0 0)) None (one_is (length s.machine.seen.harts) one)) ∙ e)
 
-no_intr : (s : State) → length s.machine.harts ≡ 1 → does s (Intr h0) ≡ None → may_take s 0 ≡ false
+no_intr : (s : State) → length s.machine.seen.harts ≡ 1 → does s (Intr h0) ≡ None → may_take s 0 ≡ false
 unfolding does
-no_intr s one e = behind_true (is_hart s.machine 0) (may_take s 0) (one_is (length s.machine.harts) one) (refused (is_hart s.machine 0 && may_take s 0) _ e)
+no_intr s one e = after_true (is_hart s.machine 0) (may_take s 0) (one_is (length s.machine.seen.harts) one) (refused (is_hart s.machine 0 && may_take s 0) _ e)
 
-no_instr : (s : State) → length s.machine.harts ≡ 1 → does s (Instr h0) ≡ None → (may_run s 0 || may_pass s 0) ≡ false
+no_instr : (s : State) → length s.machine.seen.harts ≡ 1 → does s (Instr h0) ≡ None → (may_run s 0 || may_pass s 0) ≡ false
 unfolding does
-no_instr s one e = behind_true (is_hart s.machine 0) (may_run s 0 || may_pass s 0) (one_is (length s.machine.harts) one) (refused (is_hart s.machine 0 && (may_run s 0 || may_pass s 0)) _ e)
+no_instr s one e = after_true (is_hart s.machine 0) (may_run s 0 || may_pass s 0) (one_is (length s.machine.seen.harts) one) (refused (is_hart s.machine 0 && (may_run s 0 || may_pass s 0)) _ e)
 
 or_false : (a b : Bool) → (a || b) ≡ false → (a ≡ false) × (b ≡ false)
 or_false true b e = absurd (false≢true (sym e))
@@ -90,13 +93,13 @@ stuck_tests true false false true above o a t r h l = false≢true (sym r)
 stuck_tests true false false false above o a t r h l = false≢true (sym (rw a at l))
 stuck_tests false halted takeable below above o a t r h l = false≢true o
 
-halted_none : (s : State) → does s (Off AllHalted) ≡ None → s.mode ≡ Free → all_halted s.machine.harts ≡ false
+halted_none : (s : State) → does s (Off AllHalted) ≡ None → s.mode ≡ Free → all_halted s.machine.seen.harts ≡ false
 unfolding does
-halted_none s e free = rw free at (refused (is_free s.mode && all_halted s.machine.harts) _ e)
+halted_none s e free = rw free at (refused (is_free s.mode && all_halted s.machine.seen.harts) _ e)
 
-limit_none : (s : State) → does s (Off StepLimit) ≡ None → s.mode ≡ Free → (not (all_halted s.machine.harts) && nat_le s.machine.limit s.machine.steps) ≡ false
+limit_none : (s : State) → does s (Off StepLimit) ≡ None → s.mode ≡ Free → (not (all_halted s.machine.seen.harts) && nat_le s.machine.limit s.machine.steps) ≡ false
 unfolding does
-limit_none s e free = rw free at (refused (is_free s.mode && (not (all_halted s.machine.harts) && nat_le s.machine.limit s.machine.steps)) _ e)
+limit_none s e free = rw free at (refused (is_free s.mode && (not (all_halted s.machine.seen.harts) && nat_le s.machine.limit s.machine.steps)) _ e)
 
 opened_of_trap : (opened : Bool) (r : Option Reason) → cond (not opened && true) (Some Start) r ≡ None → opened ≡ true
 opened_of_trap true r e = refl
@@ -109,29 +112,29 @@ trap-opened s e = opened_of_trap s.opened _ e
 above_is : (limit steps : ℕ) → nat_le limit steps ≡ not (nat_lt steps limit)
 above_is limit steps = grind (arith, nat_tests)
 
-free_moves : (s : State) → s.mode ≡ Free → length s.machine.harts ≡ 1 → does s (Intr h0) ≡ None → does s (Session h0) ≡ None → does s (Instr h0) ≡ None → does s (Off AllHalted) ≡ None → does s (Off StepLimit) ≡ None → ⊥
+free_moves : (s : State) → s.mode ≡ Free → length s.machine.seen.harts ≡ 1 → does s (Intr h0) ≡ None → does s (Session h0) ≡ None → does s (Instr h0) ≡ None → does s (Off AllHalted) ≡ None → does s (Off StepLimit) ≡ None → ⊥
 free_moves s free one a b c f g =
     let no_trap : trap s.machine 0 ≡ None = rw free at (no_session s one b) in
-    let halted_is = all_halted-one s.machine.harts (start_context 0 0) one in
+    let halted_is = all_halted-one s.machine.seen.harts (start_context 0 0) one in
     let take = rw free at (no_intr s one a) in
     let run = rw (free, no_trap) at ((or_false (may_run s 0) (may_pass s 0) (no_instr s one c)).0) in
     stuck_tests s.machine.opened (context_at s.machine 0).halted (is_takeable (context_at s.machine 0)) (nat_lt s.machine.steps s.machine.limit) (nat_le s.machine.limit s.machine.steps)
     (trap-opened s.machine no_trap) (above_is s.machine.limit s.machine.steps) take run
     (sym halted_is ∙ halted_none s f free) (rw halted_is at (limit_none s g free))
 
-pass_moves : (s : State) (m : Hart) (late : ℕ) (again : Bool) → s.mode ≡ Pass m late again → ((m.0 == 0) && (late == 0)) ≡ true → length s.machine.harts ≡ 1 → does s (Session h0) ≡ None → does s (Instr h0) ≡ None → ⊥
+pass_moves : (s : State) (m : Hart) (late : ℕ) (again : Bool) → s.mode ≡ Pass m late again → ((m.0 == 0) && (late == 0)) ≡ true → length s.machine.seen.harts ≡ 1 → does s (Session h0) ≡ None → does s (Instr h0) ≡ None → ⊥
 pass_moves s m late again mode alone one b c =
     let none = rw (mode, alone) at (no_session s one b) in
     let no_fault_is : fault_of s.machine 0 ≡ None = no_fault (fault_of s.machine 0) none in
     let passes = rw (mode, (and_true (m.0 == 0) (late == 0) alone).0, no_fault_is) at ((or_false (may_run s 0) (may_pass s 0) (no_instr s one c)).1) in
     false≢true (sym passes)
 
-back_moves : (s : State) (m : Hart) (late : ℕ) → s.mode ≡ Back m late → ((m.0 == 0) && (late == 0)) ≡ true → length s.machine.harts ≡ 1 → does s (Session h0) ≡ None → ⊥
+back_moves : (s : State) (m : Hart) (late : ℕ) → s.mode ≡ Back m late → ((m.0 == 0) && (late == 0)) ≡ true → length s.machine.seen.harts ≡ 1 → does s (Session h0) ≡ None → ⊥
 back_moves s m late mode alone one b =
     let none : ◌≡◌ {A = Option Reason} (Some Step) None = rw (mode, alone) at (no_session s one b) in
     cc
 
-moves : (s : State) (mode : Mode) → s.mode ≡ mode → is_alone mode ≡ true → ending_of mode ≡ None → length s.machine.harts ≡ 1 → does s (Intr h0) ≡ None → does s (Session h0) ≡ None → does s (Instr h0) ≡ None → does s (Off AllHalted) ≡ None → does s (Off StepLimit) ≡ None → ⊥
+moves : (s : State) (mode : Mode) → s.mode ≡ mode → is_alone mode ≡ true → ending_of mode ≡ None → length s.machine.seen.harts ≡ 1 → does s (Intr h0) ≡ None → does s (Session h0) ≡ None → does s (Instr h0) ≡ None → does s (Off AllHalted) ≡ None → does s (Off StepLimit) ≡ None → ⊥
 moves s Free e h r one a b c f g = free_moves s e one a b c f g
 moves s (Hold m late) e h r one a b c f g = false≢true h
 moves s (Pass m late again) e h r one a b c f g = pass_moves s m late again e h one b c
@@ -140,5 +143,5 @@ moves s (Leave m late) e h r one a b c f g = false≢true h
 moves s (Over ending) e h r one a b c f g = cc
 
 -- a machine with one hart that isn't over can move
-pub some_allowed : (s : State) → length s.machine.harts ≡ 1 → IsTrue (is_alone s.mode) → ending_of s.mode ≡ None → does s (Intr h0) ≡ None → does s (Session h0) ≡ None → does s (Instr h0) ≡ None → does s (Off AllHalted) ≡ None → does s (Off StepLimit) ≡ None → ⊥
+pub some_allowed : (s : State) → length s.machine.seen.harts ≡ 1 → IsTrue (is_alone s.mode) → ending_of s.mode ≡ None → does s (Intr h0) ≡ None → does s (Session h0) ≡ None → does s (Instr h0) ≡ None → does s (Off AllHalted) ≡ None → does s (Off StepLimit) ≡ None → ⊥
 some_allowed s one alone running a b c f g = moves s s.mode refl alone running one a b c f g

@@ -3,8 +3,8 @@ use Rattle.std.proofs.Common.{◌≡◌, ℕ, zero, suc, ◌+◌, ◌&&◌, Bool
 use Rattle.std.specs.List.{range_with_len}
 use Rattle.std.proofs.lemmas.List.Elements.{filter-append}
 use Rattle.mach_base.specs.Number.{dec_text}
-use Rattle.mach_base.specs.Texts.{has_bit}
-use Rattle.atom_mach.specs.Texts.{joined_by, joined_by_blank}
+use Rattle.mach_base.specs.Masks.{has_bit}
+use Rattle.atom_mach.specs.Texts.{number_text, numbers_text}
 
 -- whether there are no numbers
 abbrev pub is_empty : List ℕ → Bool
@@ -12,12 +12,12 @@ is_empty [] = true
 is_empty (x ∷ xs) = false
 
 -- one more number behind the others
-joined_more : (xs : List ℕ) (h : ℕ) → joined_by_blank (xs ++ h ∷ []) ≡ joined_by_blank xs ++ joined_by (is_empty xs) h
+joined_more : (xs : List ℕ) (h : ℕ) → numbers_text (xs ++ h ∷ []) ≡ numbers_text xs ++ number_text (is_empty xs) h
 joined_more [] h = refl
 joined_more (x ∷ []) h = refl
 joined_more (x ∷ y ∷ xs) h =
     ap (λ (t : List ℕ). dec_text x ++ 32 ∷ t) (joined_more (y ∷ xs) h)
-    ∙ sym (append_assoc (dec_text x) (32 ∷ joined_by_blank (y ∷ xs)) (joined_by false h))
+    ∙ sym (append_assoc (dec_text x) (32 ∷ numbers_text (y ∷ xs)) (number_text false h))
 
 range_more : (a n : ℕ) → range_with_len a (suc n) ≡ range_with_len a n ++ (a + n) ∷ []
 range_more a zero = ap (λ (k : ℕ). k ∷ []) (omega arith)
@@ -58,17 +58,17 @@ some : (xs : List ℕ) (h : ℕ) → is_empty (xs ++ h ∷ []) ≡ false
 some [] h = refl
 some (x ∷ xs) h = refl
 
-text_more : (xs : List ℕ) (k : ℕ) (b : Bool) → joined_by_blank (xs ++ cond b (k ∷ []) []) ≡ joined_by_blank xs ++ cond b (joined_by (is_empty xs) k) []
+text_more : (xs : List ℕ) (k : ℕ) (b : Bool) → numbers_text (xs ++ cond b (k ∷ []) []) ≡ numbers_text xs ++ cond b (number_text (is_empty xs) k) []
 text_more xs k true = joined_more xs k
-text_more xs k false = ap joined_by_blank (none_more xs) ∙ sym (none_more (joined_by_blank xs))
+text_more xs k false = ap numbers_text (none_more xs) ∙ sym (none_more (numbers_text xs))
 
 first_more : (xs : List ℕ) (k : ℕ) (b : Bool) → is_empty (xs ++ cond b (k ∷ []) []) ≡ (is_empty xs && not b)
 first_more xs k true = some xs k ∙ sym (and_false (is_empty xs))
 first_more xs k false = ap is_empty (none_more xs) ∙ sym (and_true (is_empty xs))
 
 -- the text of the numbers below k + 1, and whether there are none
-pub numbers_more : (mask k : ℕ) → joined_by_blank (below mask (k + 1)) ≡ joined_by_blank (below mask k) ++ cond (has_bit mask k) (joined_by (is_empty (below mask k)) k) []
-numbers_more mask k = ap joined_by_blank (below_more mask k (has_bit mask k) refl) ∙ text_more (below mask k) k (has_bit mask k)
+pub numbers_more : (mask k : ℕ) → numbers_text (below mask (k + 1)) ≡ numbers_text (below mask k) ++ cond (has_bit mask k) (number_text (is_empty (below mask k)) k) []
+numbers_more mask k = ap numbers_text (below_more mask k (has_bit mask k) refl) ∙ text_more (below mask k) k (has_bit mask k)
 
 pub none_so_far : (mask k : ℕ) → is_empty (below mask (k + 1)) ≡ (is_empty (below mask k) && not (has_bit mask k))
 none_so_far mask k = ap is_empty (below_more mask k (has_bit mask k) refl) ∙ first_more (below mask k) k (has_bit mask k)

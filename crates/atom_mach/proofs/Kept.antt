@@ -1,37 +1,24 @@
 -- What each step of a machine leaves as it was.
-use Rattle.std.proofs.Common.{◌≡◌, ℕ, ◌+◌, ◌≤◌, eqb, Bool, true, false, cond, List, [], ◌∷◌, length, slice_set, Option, Some, None, Result, Ok, Err, refl, ◌∙◌, arith}
-use Rattle.std.proofs.lemmas.List.{length-set, length-map}
-use Rattle.mach_base.specs.Machine.{Context, Memory, Machine}
+use Rattle.std.proofs.Common.{◌≡◌, ℕ, ◌+◌, ◌%◌, ◌≤◌, ◌==◌, ◌&&◌, true, List, [], ◌∷◌, Option, Some, None, Result, Ok, Err, refl, sym, ap, subst, ◌∙◌, arith}
+use Rattle.std.proofs.lemmas.List.{length-set}
+use Rattle.mach_base.specs.Masks.{all_but}
+use Rattle.mach_base.specs.Machine.{Place, LineState, Machine, is_text_segment, is_text_word, segment_at}
 use Rattle.mach_base.specs.declared.event.Hart.{Hart}
 use Rattle.mach_base.specs.declared.event.Fault.{Fault}
-use Rattle.hart_ctx.specs.Context.{context_of}
-use Rattle.mem_map.specs.Access.{stored}
-use Rattle.rv_decode.specs.Fields.{Fields, decoded}
 use Rattle.trap_ipi.specs.Interrupt.{after_interrupt}
-use Rattle.trap_ipi.specs.Service.{is_known, service_number, argument, served, interrupted as made_pending, after_known, after_service}
-use Rattle.hart_step.specs.declared.class.Class.{Class}
-use Rattle.hart_step.specs.declared.class.Class.TheVariants.{Store, Conditional, Atomic, Service}
-use Rattle.hart_step.specs.Operands.{class_of, register}
-use Rattle.hart_step.specs.Execution.{without_reservation, stored_granule, ended, holds_reservation, context_after, contexts_in, contexts_after, memory_in, memory_after}
-use Rattle.kdb_cmd.specs.declared.outcomes.Outcome.{Outcome}
-use Rattle.kdb_cmd.specs.declared.outcomes.Outcome.TheVariants.{Stay, Go, Step as StepOut}
+use Rattle.hart_step.proofs.Frame.{keeps_shape}
+use Rattle.kdb_bp.specs.Breaks.{place_at}
+use Rattle.kdb_macro.specs.Macros.{AreMacros}
+use Rattle.kdb_cmd.specs.Line.{macros_of}
 use Rattle.kdb_cmd.specs.Limits.{WithinLimits as DebuggerLimits}
 use Rattle.kdb_cmd.proofs.Keeps.{line_keeps}
 use Rattle.atom_mach.specs.declared.step.Mode.{Mode}
 use Rattle.atom_mach.specs.declared.step.Mode.TheVariants.{Free, Hold, Pass, Back, Leave, Over}
-use Rattle.atom_mach.specs.State.{State, context_at}
-use Rattle.atom_mach.specs.Step.{Done, fetched_at, executed, interrupted, gathered, line_state, line_said, line_text, with_read, entered, session_lines, after_line, mode_of_go}
+use Rattle.atom_mach.specs.State.{State, Done, hart_count, context_at}
+use Rattle.atom_mach.specs.Traps.{fetched_at, executed, interrupted}
 use Rattle.atom_mach.specs.Modes.{owed}
-
--- what every step leaves as it was: the number of harts, segments, symbols, the limit of steps, the number of the script's
--- lines, and the debugger's limits
-pub record IsKept (s : Machine) (t : Machine) : Type 0 where
-  pub harts : length t.harts ≡ length s.harts
-  pub segments : t.memory.segments ≡ s.memory.segments
-  pub symbols : t.symbols ≡ s.symbols
-  pub limit : t.limit ≡ s.limit
-  pub script : t.lines_read + length t.unread ≡ s.lines_read + length s.unread
-  pub debugger : DebuggerLimits (line_state s) → DebuggerLimits (line_state t)
+use Rattle.atom_mach.specs.Session.{Cut, entered, with_read, line_effect, after_line, session_lines}
+use Rattle.atom_mach.specs.Limits.{IsKept}
 
 pub IsKept-same : (s : Machine) → IsKept s s
 IsKept-same s = record { harts = refl; segments = refl; symbols = refl; limit = refl; script = refl; debugger = λ l. l }
@@ -46,86 +33,49 @@ IsKept-then s t u p q = record {
   debugger = λ l. q.debugger (p.debugger l);
 }
 
+-- the debugger's limits are about the places, the variables, the macros and the segments
+limits_alike : (s t : LineState) → t.places ≡ s.places → t.variables ≡ s.variables → macros_of t ≡ macros_of s → t.memory.segments ≡ s.memory.segments → DebuggerLimits s → DebuggerLimits t
+limits_alike s t places variables macros segments l = record {
+  places = rw places l.places;
+  variables = rw variables l.variables;
+  macros = subst AreMacros (sym macros) l.macros;
+  breakpoints = record { apart = rw places l.breakpoints.apart; text = text };
+}
+  where
+    text : (i : ℕ) (p : Place) → place_at t.places i ≡ Some p → is_text_word t.memory p.addr ≡ true
+    text i p e =
+        ap (λ g. (p.addr % 4 == 0) && is_text_segment (segment_at g p.addr)) segments
+        ∙ l.breakpoints.text i p (ap (λ places. place_at places i) (sym places) ∙ e)
+
 -- Instructions and interrupts.
-
-length_ended : (g : Option ℕ) (cs : List Context) → length (ended g cs) ≡ length cs
-length_ended None cs = refl
-length_ended (Some g) cs = length-map cs (without_reservation g)
-
-length_own : (g : Option ℕ) (cs : List Context) (h : ℕ) (c : Context) → length (slice_set (ended g cs) h c) ≡ length cs
-length_own g cs h c = length-set (ended g cs) h c ∙ length_ended g cs
-
-length_served : (cs : List Context) (h : ℕ) → length (after_service cs h) ≡ length cs
-unfolding after_service
-length_served cs h = by_known (is_known (length cs) (service_number (context_of cs h)) (argument (context_of cs h)))
-  where
-    by_six : (b : Bool) (k number : ℕ) → length (cond b (made_pending (slice_set cs h (served number h (context_of cs h))) k) (slice_set cs h (served number h (context_of cs h)))) ≡ length cs
-    by_six true k number = length-set (slice_set cs h (served number h (context_of cs h))) k _ ∙ length-set cs h (served number h (context_of cs h))
-    by_six false k number = length-set cs h (served number h (context_of cs h))
-
-    by_known : (b : Bool) → length (cond b (after_known (service_number (context_of cs h)) (argument (context_of cs h)) cs h) cs) ≡ length cs
-    by_known true = by_six (eqb (service_number (context_of cs h)) 6) (argument (context_of cs h)) (service_number (context_of cs h))
-    by_known false = refl
-
-length_class : (k : Class) (cs : List Context) (m : Memory) (h : ℕ) (f : Fields) → length (contexts_in k cs m h f) ≡ length cs
-unfolding contexts_in
-length_class Service cs m h f = length_served cs h
-length_class k cs m h f = length_own (stored_granule k (context_of cs h) f) cs h (context_after k m (context_of cs h) f)
-
-length_after : (cs : List Context) (m : Memory) (h word : ℕ) → length (contexts_after cs m h word) ≡ length cs
-unfolding contexts_after
-length_after cs m h word = by_fields (decoded word) refl
-  where
-    by_fields : (d : Option Fields) → decoded word ≡ d → length (contexts_after cs m h word) ≡ length cs
-    by_fields None d = rw d refl
-    by_fields (Some f) d = rw d (length_class (class_of f.op) cs m h f)
-
-segments_class : (k : Class) (m : Memory) (c : Context) (f : Fields) → (memory_in k m c f).segments ≡ m.segments
-unfolding memory_in stored
-segments_class (Store width) m c f = refl
-segments_class (Conditional width) m c f = by_test (holds_reservation c f) (stored m (register c f.rs1) width (register c f.rs2)) refl
-  where
-    by_test : (b : Bool) (t : Memory) → t.segments ≡ m.segments → (cond b t m).segments ≡ m.segments
-    by_test true t e = e
-    by_test false t e = refl
-segments_class (Atomic width) m c f = refl
-segments_class k m c f = refl
-
-segments_after : (m : Memory) (c : Context) (word : ℕ) → (memory_after m c word).segments ≡ m.segments
-unfolding memory_after
-segments_after m c word = by_fields (decoded word) refl
-  where
-    by_fields : (d : Option Fields) → decoded word ≡ d → (memory_after m c word).segments ≡ m.segments
-    by_fields None d = rw d refl
-    by_fields (Some f) d = rw d (segments_class (class_of f.op) m c f)
 
 pub executed_kept : (s : Machine) (h : ℕ) → IsKept s (executed s h)
 unfolding executed
 executed_kept s h = record {
   harts = count (fetched_at s h) refl;
-  segments = parts (fetched_at s h) refl;
+  segments = segments (fetched_at s h) refl;
   symbols = refl;
   limit = refl;
   script = refl;
-  debugger = λ l. record { places = l.places; variables = l.variables; macros = l.macros; lines = l.lines };
+  debugger = limits_alike s.seen (executed s h).seen refl refl refl (segments (fetched_at s h) refl);
 }
   where
-    count : (r : Result ℕ Fault) → fetched_at s h ≡ r → length (executed s h).harts ≡ length s.harts
-    count (Ok word) f = rw f (length_after s.harts s.memory h word)
+    count : (r : Result ℕ Fault) → fetched_at s h ≡ r → hart_count (executed s h) ≡ hart_count s
+    count (Ok word) f = rw f (keeps_shape s.seen.harts s.seen.memory h word).0
     count (Err fault) f = rw f refl
 
-    parts : (r : Result ℕ Fault) → fetched_at s h ≡ r → (executed s h).memory.segments ≡ s.memory.segments
-    parts (Ok word) f = rw f (segments_after s.memory (context_at s h) word)
-    parts (Err fault) f = rw f refl
+    segments : (r : Result ℕ Fault) → fetched_at s h ≡ r → (executed s h).seen.memory.segments ≡ s.seen.memory.segments
+    segments (Ok word) f = rw f (keeps_shape s.seen.harts s.seen.memory h word).1
+    segments (Err fault) f = rw f refl
 
 pub interrupted_kept : (s : Machine) (h : ℕ) → IsKept s (interrupted s h)
 interrupted_kept s h = record {
-  harts = length-set s.harts h (after_interrupt (context_at s h));
+  harts = length-set s.seen.harts h (after_interrupt (context_at s h));
   segments = refl;
   symbols = refl;
   limit = refl;
   script = refl;
-  debugger = λ l. record { places = l.places; variables = l.variables; macros = l.macros; lines = l.lines };
+  debugger = limits_alike s.seen (interrupted s h).seen refl refl refl refl;
 }
 
 -- Sessions.
@@ -137,20 +87,20 @@ entered_kept s m = record {
   symbols = refl;
   limit = refl;
   script = refl;
-  debugger = λ l. record { places = l.places; variables = l.variables; macros = l.macros; lines = l.lines };
+  debugger = limits_alike s.seen (entered s m).seen refl refl refl refl;
 }
 
-pub line_kept : (m : Hart) (late : ℕ) (line : List ℕ) (rest : List (List ℕ)) (s : Machine) → s.unread ≡ line ∷ rest → IsKept s (line_said m late line (with_read s rest)).machine
-unfolding line_said
+pub line_kept : (m : Hart) (late : ℕ) (line : List ℕ) (rest : List (List ℕ)) (s : Machine) → s.unread ≡ line ∷ rest → IsKept s (line_effect m late line (with_read s rest)).machine
+unfolding line_effect
 line_kept m late line rest s e =
-    let k = line_keeps (gathered (with_read s rest) late) m.0 line (line_state (with_read s rest)) in
+    let k = line_keeps (all_but (hart_count s) late) m.0 line s.seen in
     record {
       harts = k.harts;
       segments = k.segments;
       symbols = k.symbols;
       limit = refl;
       script = rw e (omega arith);
-      debugger = λ l. k.limits (record { places = l.places; variables = l.variables; macros = l.macros; lines = l.lines });
+      debugger = k.limits;
     }
 
 -- at most one step is owed
@@ -168,18 +118,17 @@ pub record IsSession (s : Machine) (t : State) : Type 0 where
   pub steps : t.machine.steps ≡ s.steps
   pub pass : s.lines_read + owed t.mode ≤ t.machine.lines_read
 
-after_line_kept : (o : Outcome) (text : List ℕ) (s t : Machine) (m : Hart) (rest : Done) → IsKept s t → t.steps ≡ s.steps → t.lines_read ≡ s.lines_read + 1 → IsSession t rest.next → IsSession s (after_line o text t m rest).next
-after_line_kept Stay text s t m rest kept steps read behind =
-    let pass = behind.pass in
-    record { kept = IsKept-then s t rest.next.machine kept behind.kept; steps = behind.steps ∙ steps; pass = omega arith }
-after_line_kept Go text s t m rest kept steps read behind =
-    let low = owed-low (mode_of_go t m 0) in
+after_line_kept : (left : Option Mode) (s : Machine) (c : Cut) (rest : Done) → IsKept s c.machine → c.machine.steps ≡ s.steps → c.machine.lines_read ≡ s.lines_read + 1 → IsSession c.machine rest.next → IsSession s (after_line left c rest).next
+after_line_kept None s c rest kept steps read goes_on =
+    let pass = goes_on.pass in
+    record { kept = IsKept-then s c.machine rest.next.machine kept goes_on.kept; steps = goes_on.steps ∙ steps; pass = omega arith }
+after_line_kept (Some mode) s c rest kept steps read goes_on =
+    let low = owed-low mode in
     record { kept = kept; steps = steps; pass = omega arith }
-after_line_kept StepOut text s t m rest kept steps read behind = record { kept = kept; steps = steps; pass = omega arith }
 
 pub session_lines_kept : (m : Hart) (lines : List (List ℕ)) (s : Machine) → s.unread ≡ lines → IsSession s (session_lines m lines s).next
-unfolding session_lines line_said
+unfolding session_lines line_effect
 session_lines_kept m [] s e = record { kept = IsKept-same s; steps = refl; pass = omega arith }
 session_lines_kept m (line ∷ rest) s e =
-    after_line_kept (line_said m 0 line (with_read s rest)).outcome (line_text m 0 line (with_read s rest)) s (line_said m 0 line (with_read s rest)).machine m
-    (session_lines m rest (line_said m 0 line (with_read s rest)).machine) (line_kept m 0 line rest s e) refl refl (session_lines_kept m rest (line_said m 0 line (with_read s rest)).machine refl)
+    let effect = line_effect m 0 line (with_read s rest) in
+    after_line_kept effect.left s effect (session_lines m rest effect.machine) (line_kept m 0 line rest s e) refl refl (session_lines_kept m rest effect.machine refl)

@@ -1,35 +1,26 @@
 -- A session with late harts keeps the harts that it holds, and they stand still.
-use Rattle.std.proofs.Common.{◌≡◌, ℕ, ◌^◌, ◌==◌, ◌&&◌, ◌||◌, eqb, Bool, true, false, not, cond, length, Option, Some, None, Result, Ok, Err, nat_lt, refl, sym, ap}
-use Rattle.std.proofs.lemmas.Bool.{false≢true}
-use Rattle.mach_base.specs.Texts.{has_bit}
+use Rattle.std.proofs.Common.{◌≡◌, ◌≢◌, ℕ, ◌==◌, ◌&&◌, ◌||◌, eqb, Bool, true, false, not, cond, Option, Some, None, Result, Ok, Err, refl, sym, ap, ◌∙◌}
+use Rattle.std.proofs.lemmas.Bool.{eq-eqb, false≢true}
+use Rattle.mach_base.specs.Masks.{has_bit}
 use Rattle.mach_base.specs.Machine.{Machine}
 use Rattle.mach_base.specs.declared.event.Hart.{Hart}
 use Rattle.mach_base.specs.declared.event.Fault.{Fault}
 use Rattle.mach_base.specs.declared.event.Reason.{Reason}
 use Rattle.mach_base.specs.declared.event.Ending.{Ending}
 use Rattle.mach_base.specs.declared.event.Ending.TheVariants.{ScriptEnd, AllHalted, StepLimit, PlanEnd}
-use Rattle.hart_ctx.specs.Context.{context_of}
-use Rattle.trap_ipi.specs.Interrupt.{after_interrupt}
+use Rattle.hart_ctx.specs.Context.{context_of, IsUnmoved}
+use Rattle.hart_step.proofs.Frame.{keeps_others, interrupt_keeps}
 use Rattle.atom_mach.specs.declared.step.Mode.{Mode}
 use Rattle.atom_mach.specs.declared.step.Mode.TheVariants.{Free, Hold, Pass, Back, Leave, Over}
 use Rattle.atom_mach.specs.declared.step.AStep.TheVariants.{Instr, Intr, Session, Enter, Line, End, Off}
-use Rattle.atom_mach.specs.State.{State, context_at}
-use Rattle.atom_mach.specs.Step.{Done, does, fetched_at, executed, runs, owes, opening, held_for, closed, ended, is_free, is_true_ending, holds_at_end, is_hart, may_run, may_pass, may_take}
-use Rattle.atom_mach.specs.Late.{is_gathered, IsUnmoved, LateSessionsKeepGatheredHarts, GatheredHartsStand}
-use Rattle.atom_mach.proofs.Steps.{cond_false, and_true, and_false}
-use Rattle.atom_mach.proofs.Unmoved.{unmoved_same, set_unmoved, instruction_unmoved}
-
-not_is : (b : Bool) → not b ≡ true → b ≡ false
-not_is true e = absurd (false≢true e)
-not_is false e = refl
-
-and_first : (a b : Bool) → a ≡ false → (a && b) ≡ false
-and_first a b e = rw e refl
-
--- what is allowed, by its test
-taken : {A : Type 0} (b : Bool) (x d : A) → cond b (Some x) None ≡ Some d → (b ≡ true) × (x ≡ d)
-taken true x d e = (refl, cc)
-taken false x d e = absurd (cc)
+use Rattle.atom_mach.specs.State.{State, context_at, Done}
+use Rattle.atom_mach.specs.Traps.{fetched_at, executed, interrupted}
+use Rattle.atom_mach.specs.Modes.{runs, owes, is_free}
+use Rattle.atom_mach.specs.Session.{opening_reason, is_hart}
+use Rattle.atom_mach.specs.Step.{does, held_for, closed, ended, is_true_ending, holds_at_end, may_run, may_pass, may_take, can_be_late}
+use Rattle.atom_mach.specs.Late.{is_gathered, LateSessionsKeepGatheredHarts, GatheredHartsStand}
+use Rattle.atom_mach.proofs.Booleans.{cond_false, and_true, and_false, and_first, and_second, not_is, taken, either_none}
+use Rattle.atom_mach.proofs.Frame.{IsUnmoved-same}
 
 -- a hart that is held doesn't run
 runs_not : (mode : Mode) (opened : Bool) (h : ℕ) → is_gathered mode h ≡ true → runs mode opened h ≡ false
@@ -40,8 +31,8 @@ runs_not (Back m late) opened h e = not_is (has_bit late h) (and_true (not (late
 runs_not (Leave m late) opened h e = not_is (has_bit late h) e
 runs_not (Over ending) opened h e = absurd (false≢true e)
 
--- where a hart is held no session opens with nobody late
-opening_none : (mode : Mode) (s : Machine) (m h : ℕ) → is_gathered mode h ≡ true → opening mode s m 0 ≡ None
+-- where a hart is held no session with no late harts opens
+opening_none : (mode : Mode) (s : Machine) (m h : ℕ) → is_gathered mode h ≡ true → opening_reason mode s m 0 ≡ None
 opening_none Free s m h e = absurd (false≢true e)
 opening_none (Hold k late) s m h e = refl
 opening_none (Pass k late again) s m h e =
@@ -56,20 +47,13 @@ opening_none (Over ending) s m h e = absurd (false≢true e)
 -- nor does a session of another hart
 no_session : (s : State) (m : Hart) (h : ℕ) → is_gathered s.mode h ≡ true → does s (Session m) ≡ None
 unfolding does
-no_session s m h e = rw (opening_none s.mode s.machine m.0 h e) (same (is_hart s.machine m.0))
-  where
-    same : (b : Bool) → ◌≡◌ {A = Option Done} (cond b None None) None
-    same true = refl
-    same false = refl
+no_session s m h e = rw (opening_none s.mode s.machine m.0 h e) (either_none (is_hart s.machine m.0))
 
 no_interrupt : (s : State) (h : Hart) → is_gathered s.mode h.0 ≡ true → does s (Intr h) ≡ None
 unfolding does
 no_interrupt s h e =
     let still : may_take s h.0 ≡ false = and_first (runs s.mode s.machine.opened h.0) _ (runs_not s.mode s.machine.opened h.0 e) in
-    cond_false (is_hart s.machine h.0 && may_take s h.0) _ _ (behind (is_hart s.machine h.0) (may_take s h.0) still)
-  where
-    behind : (a b : Bool) → b ≡ false → (a && b) ≡ false
-    behind a b p = rw p (and_false a)
+    cond_false (is_hart s.machine h.0 && may_take s h.0) _ _ (and_second (is_hart s.machine h.0) (may_take s h.0) still)
 
 no_instruction : (s : State) (h : Hart) → is_gathered s.mode h.0 ≡ true → owes s.mode h.0 ≡ false → does s (Instr h) ≡ None
 unfolding does
@@ -90,16 +74,19 @@ gathered_harts_stand s h e = record {
 }
 
 -- the harts are the same
-same_harts : (s t : Machine) (g : ℕ) → t.harts ≡ s.harts → IsUnmoved (context_at s g) (context_at t g)
-same_harts s t g e = unmoved_same (context_at s g) (context_at t g) (ap (λ cs. context_of cs g) e)
+same_harts : (s t : Machine) (g : ℕ) → t.seen.harts ≡ s.seen.harts → IsUnmoved (context_at s g) (context_at t g)
+same_harts s t g e = IsUnmoved-same (context_at s g) (context_at t g) (ap (λ cs. context_of cs g) e)
+
+other_than : (h g : ℕ) → eqb h g ≡ false → g ≢ h
+other_than h g e = λ same. false≢true (sym e ∙ eq-eqb h g (sym same))
 
 executed_unmoved : (s : Machine) (h g : ℕ) → eqb h g ≡ false → IsUnmoved (context_at s g) (context_at (executed s h) g)
 unfolding executed
 executed_unmoved s h g e = by_fetched (fetched_at s h) refl
   where
     by_fetched : (r : Result ℕ Fault) → fetched_at s h ≡ r → IsUnmoved (context_at s g) (context_at (executed s h) g)
-    by_fetched (Ok word) f = rw f (instruction_unmoved s.harts s.memory h g word e)
-    by_fetched (Err fault) f = rw f (record { registers = refl; pc = refl })
+    by_fetched (Ok word) f = rw f (keeps_others s.seen.harts s.seen.memory h word g (other_than h g e))
+    by_fetched (Err fault) f = rw f (IsUnmoved-same (context_at s g) (context_at s g) refl)
 
 keeps_instruction : (s : State) (k : Hart) (d : Done) → does s (Instr k) ≡ Some d → (h : ℕ) → eqb k.0 h ≡ false → IsUnmoved (context_at s.machine h) (context_at d.next.machine h)
 unfolding does
@@ -111,25 +98,25 @@ keeps_interrupt : (s : State) (k : Hart) (d : Done) → does s (Intr k) ≡ Some
 unfolding does
 keeps_interrupt s k d e h other =
     let t = taken (is_hart s.machine k.0 && may_take s k.0) _ d e in
-    rw (← t.1) (set_unmoved s.machine.harts k.0 h (after_interrupt (context_at s.machine k.0)) other)
+    rw (← t.1) (IsUnmoved-same (context_at s.machine h) (context_at (interrupted s.machine k.0) h) (interrupt_keeps s.machine.seen.harts k.0 h (other_than k.0 h other)))
 
-held_harts : (s : State) (m : Hart) (late : ℕ) (r : Option Reason) (d : Done) → held_for s m late r ≡ Some d → d.next.machine.harts ≡ s.machine.harts
+held_harts : (s : State) (m : Hart) (late : ℕ) (r : Option Reason) (d : Done) → held_for s m late r ≡ Some d → d.next.machine.seen.harts ≡ s.machine.seen.harts
 held_harts s m late None d e = absurd (cc)
 held_harts s m late (Some reason) d e = let f : _ ≡ d = some_inner _ d e in rw (← f) refl
   where
     some_inner : (x y : Done) → Some x ≡ Some y → x ≡ y
     some_inner x y e = cc
 
-enter_harts : (s : State) (m : Hart) (late : ℕ) (d : Done) → does s (Enter m late) ≡ Some d → d.next.machine.harts ≡ s.machine.harts
+enter_harts : (s : State) (m : Hart) (late : ℕ) (d : Done) → does s (Enter m late) ≡ Some d → d.next.machine.seen.harts ≡ s.machine.seen.harts
 unfolding does
 enter_harts s m late d e =
-    by_test (is_hart s.machine m.0 && (not (late == 0) && (nat_lt late (2 ^ length s.machine.harts) && not (has_bit late m.0)))) e
+    by_test (can_be_late s m late) e
   where
-    by_test : (b : Bool) → cond b (held_for s m late (opening s.mode s.machine m.0 late)) None ≡ Some d → d.next.machine.harts ≡ s.machine.harts
-    by_test true f = held_harts s m late (opening s.mode s.machine m.0 late) d f
+    by_test : (b : Bool) → cond b (held_for s m late (opening_reason s.mode s.machine m.0 late)) None ≡ Some d → d.next.machine.seen.harts ≡ s.machine.seen.harts
+    by_test true f = held_harts s m late (opening_reason s.mode s.machine m.0 late) d f
     by_test false f = absurd (cc)
 
-closed_harts : (mode : Mode) (s : Machine) (d : Done) → closed mode s ≡ Some d → d.next.machine.harts ≡ s.harts
+closed_harts : (mode : Mode) (s : Machine) (d : Done) → closed mode s ≡ Some d → d.next.machine.seen.harts ≡ s.seen.harts
 closed_harts Free s d e = absurd (cc)
 closed_harts (Hold m late) s d e = absurd (cc)
 closed_harts (Pass m late again) s d e = absurd (cc)
@@ -137,14 +124,14 @@ closed_harts (Back m late) s d e = absurd (cc)
 closed_harts (Leave m late) s d e = let f = (taken true _ d e).1 in rw (← f) refl
 closed_harts (Over ending) s d e = absurd (cc)
 
-end_harts : (s : State) (d : Done) → does s End ≡ Some d → d.next.machine.harts ≡ s.machine.harts
+end_harts : (s : State) (d : Done) → does s End ≡ Some d → d.next.machine.seen.harts ≡ s.machine.seen.harts
 unfolding does
 end_harts s d e = closed_harts s.mode s.machine d e
 
-ended_harts : (s : State) (ending : Ending) (d : Done) → ended s ending ≡ Some d → d.next.machine.harts ≡ s.machine.harts
+ended_harts : (s : State) (ending : Ending) (d : Done) → ended s ending ≡ Some d → d.next.machine.seen.harts ≡ s.machine.seen.harts
 ended_harts s ending d e = let t = taken (is_free s.mode && is_true_ending s.machine ending) _ d e in rw (← t.1) refl
 
-off_harts : (s : State) (ending : Ending) (d : Done) → does s (Off ending) ≡ Some d → d.next.machine.harts ≡ s.machine.harts
+off_harts : (s : State) (ending : Ending) (d : Done) → does s (Off ending) ≡ Some d → d.next.machine.seen.harts ≡ s.machine.seen.harts
 unfolding does
 off_harts s ScriptEnd d e = let t = taken (holds_at_end s.mode s.machine.unread) _ d e in rw (← t.1) refl
 off_harts s AllHalted d e = ended_harts s AllHalted d e

@@ -1,53 +1,30 @@
--- The start keeps the limits.
-use Rattle.std.proofs.Common.{◌≡◌, ℕ, ◌≤◌, Bool, true, false, cond, List, length, Option, Some, None, Result, Ok, Err, nat_le, refl, arith}
-use Rattle.std.proofs.lemmas.List.FromFn.{length-map-range_with_len}
-use Rattle.std.proofs.lemmas.Bool.{leb-true}
-use Rattle.mach_base.specs.Machine.{Symbol}
-use Rattle.mach_base.specs.declared.event.What.TheVariants.{Lines}
-use Rattle.mach_base.specs.Lines.{lines_of}
-use Rattle.img_text.specs.Image.{ImageRecord, IsImage}
-use Rattle.img_text.specs.Boot.{first_context}
-use Rattle.kdb_env.specs.Variables.{defaults}
-use Rattle.atom_mach.specs.declared.script.ScriptFault.{ScriptFault}
-use Rattle.atom_mach.specs.declared.script.ScriptFault.TheVariants.{TooLarge}
-use Rattle.atom_mach.specs.Script.{checked_script, checked_lines, first_bad_line}
-use Rattle.atom_mach.specs.State.{start_state}
-use Rattle.atom_mach.specs.Limits.{WithinLimits}
+-- What the debugger starts with keeps its limits.
+use Rattle.std.proofs.Common.{◌≡◌, ℕ, zero, suc, List, replicate, Option, Some, None, refl, ap, ◌∙◌}
+use Rattle.mach_base.specs.Machine.{Place, LineState}
+use Rattle.mach_base.specs.declared.limits.TheConstants.{PLACES}
+use Rattle.kdb_env.specs.Variables.{AreVariables}
+use Rattle.kdb_macro.specs.Macros.{AreMacros}
+use Rattle.kdb_cmd.specs.Line.{macros_of}
+use Rattle.kdb_bp.specs.Breaks.{place_at}
+use Rattle.kdb_cmd.specs.Limits.{WithinLimits as DebuggerLimits}
 
--- a script that is right has at most 4,096 lines
-few_lines : (lines : List (List ℕ)) (bad : Option ℕ) → checked_lines lines bad ≡ Ok tt → length lines ≤ 4096
-few_lines lines (Some n) e = absurd (cc)
-few_lines lines None e = by_count (nat_le (length lines) 4096) refl e
-  where
-    by_count : (b : Bool) → nat_le (length lines) 4096 ≡ b → cond {A = Result (Unit {0}) ScriptFault} b (Ok tt) (Err (TooLarge Lines (length lines))) ≡ Ok tt → length lines ≤ 4096
-    by_count true p f = leb-true (length lines) 4096 p
-    by_count false p f = absurd (cc)
+no_place : (n i : ℕ) → ◌≡◌ {A = Option Place} (place_at (replicate n None) i) None
+no_place zero i = refl
+no_place (suc n) zero = refl
+no_place (suc n) (suc i) = no_place n i
 
-script_lines : (script : List ℕ) → checked_script script ≡ Ok tt → length (lines_of script) ≤ 4096
-unfolding checked_script
-script_lines script e = few_lines (lines_of script) (first_bad_line 1 (lines_of script)) e
+no_breakpoint : (places : List (Option Place)) (i : ℕ) (p : Place) → places ≡ replicate PLACES None → place_at places i ≡ Some p → ⊥
+no_breakpoint places i p none e =
+    let nothing = ap (λ places. place_at places i) none ∙ no_place PLACES i in cc
 
-few_defaults : length defaults ≤ 31
-unfolding defaults
-few_defaults = omega arith
-
--- the start of a machine with 1 to 16 harts, from an image, symbols and a script that are right
-pub start_within :
-    (image : ImageRecord) (symbols : List Symbol) (script : List ℕ) (harts limit : ℕ) →
-    IsImage image → length symbols ≤ 500000 → checked_script script ≡ Ok tt → 1 ≤ harts → harts ≤ 16 → limit ≤ 4000000 →
-    WithinLimits (start_state image symbols script harts limit)
-unfolding start_state
-start_within image symbols script harts limit right few checked some many below =
-    let count = length-map-range_with_len (first_context image) 0 harts in
-    let lines = script_lines script checked in
-    record {
-      some_hart = rw count some;
-      few_harts = rw count many;
-      segments = right.segments;
-      symbols = few;
-      debugger = record { places = refl; variables = few_defaults; macros = omega arith; lines = tt };
-      script = omega arith;
-      limit = below;
-      pass = omega arith;
-      steps = omega arith;
-    }
+-- no breakpoint, and variables and macros within their limits
+pub debugger_within : (s : LineState) → s.places ≡ replicate PLACES None → AreVariables s.variables → AreMacros (macros_of s) → DebuggerLimits s
+debugger_within s places variables macros = record {
+  places = rw places refl;
+  variables = variables;
+  macros = macros;
+  breakpoints = record {
+    apart = λ i j p q e f same. absurd (no_breakpoint s.places i p places e);
+    text = λ i p e. absurd (no_breakpoint s.places i p places e);
+  };
+}

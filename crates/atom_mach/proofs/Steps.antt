@@ -12,26 +12,17 @@ use Rattle.atom_mach.specs.declared.step.Mode.{Mode}
 use Rattle.atom_mach.specs.declared.step.Mode.TheVariants.{Free, Hold, Pass, Back, Leave, Over}
 use Rattle.atom_mach.specs.declared.step.AStep.TheVariants.{Instr, Off}
 use Rattle.hart_step.specs.Faults.{word_fault}
+use Rattle.rv_table.specs.declared.table.TheConstants.{EBREAK}
 use Rattle.kdb_bp.specs.Breaks.{first_enabled}
-use Rattle.atom_mach.specs.State.{State, context_at}
-use Rattle.atom_mach.specs.Step.{Done, does, ended, is_free, all_halted, is_hart, may_run, may_pass, owes, executed, mode_after, trap, late_trap, trap_in, fault_of, fetched_at, fault_of_fetched, trap_of_fetched, breakpoint_or, runs, console_text, ebreak_word}
+use Rattle.atom_mach.specs.State.{State, Done, hart_count, context_at}
+use Rattle.atom_mach.specs.Traps.{executed, trap, late_trap, fault_of, fetched_at, fault_of_fetched, trap_of_fetched, breakpoint_or, console_text}
+use Rattle.atom_mach.specs.Modes.{is_free, owes, mode_after, runs, Fits, is_alone}
+use Rattle.atom_mach.specs.Session.{is_hart}
+use Rattle.atom_mach.specs.Step.{trap_in, may_run, may_pass, may_take, all_halted, ended, does}
 use Rattle.trap_ipi.specs.Interrupt.{is_takeable}
-use Rattle.mach_base.specs.Texts.{has_bit}
-use Rattle.atom_mach.specs.Modes.{Fits, is_alone}
-
-pub cond_true : {A : Type 0} (b : Bool) (x y : A) → b ≡ true → cond b x y ≡ x
-cond_true b x y e = rw e refl
-
-pub cond_false : {A : Type 0} (b : Bool) (x y : A) → b ≡ false → cond b x y ≡ y
-cond_false b x y e = rw e refl
-
-pub and_true : (a b : Bool) → (a && b) ≡ true → (a ≡ true) × (b ≡ true)
-and_true true b e = (refl, e)
-and_true false b e = absurd (cc)
-
-pub and_false : (a : Bool) → (a && false) ≡ false
-and_false true = refl
-and_false false = refl
+use Rattle.mach_base.specs.Masks.{has_bit}
+use Rattle.atom_mach.proofs.Masks.{none_has}
+use Rattle.atom_mach.proofs.Booleans.{cond_true, cond_false, and_true, and_false, not_is, is_none-None}
 
 -- the endings of a free machine
 pub does-Off : (s : State) (e : Ending) → e ≢ ScriptEnd → does s (Off e) ≡ ended s e
@@ -52,7 +43,7 @@ all_halted-one (c ∷ []) d e = alone c.halted
 all_halted-one (c ∷ k ∷ cs) d e = absurd (omega arith)
 
 -- an instruction that is allowed
-pub does-Instr : (s : State) (h : Hart) → h.0 < length s.machine.harts → (may_run s h.0 || may_pass s h.0) ≡ true → does s (Instr h) ≡ Some (record { text = console_text s.machine h.0; next = record { machine = executed s.machine h.0; mode = mode_after s.mode h.0 } })
+pub does-Instr : (s : State) (h : Hart) → h.0 < hart_count s.machine → (may_run s h.0 || may_pass s h.0) ≡ true → does s (Instr h) ≡ Some (record { text = console_text s.machine h.0; next = record { machine = executed s.machine h.0; mode = mode_after s.mode h.0 } })
 unfolding does
 does-Instr s h lt e = cond_true (is_hart s.machine h.0 && (may_run s h.0 || may_pass s h.0)) _ _ (both (is_hart s.machine h.0) (may_run s h.0 || may_pass s h.0) (search rules) e)
   where
@@ -71,7 +62,7 @@ late_none : (b : Bool) (late : ℕ) → IsTrue (b && (late == 0)) → has_bit la
 late_none false late h e = false≢true h
 late_none true late h e =
     let none : late ≡ 0 = search rules in
-    false≢true (rw none at e)
+    false≢true (sym (none_has 0) ∙ rw none at e)
 
 -- with nobody late hart 0 runs in the free machine alone
 runs_alone : (mode : Mode) (opened : Bool) → IsTrue (is_alone mode) → runs mode opened 0 ≡ true → mode ≡ Free
@@ -87,20 +78,16 @@ may_run-alone s alone e = runs_alone s.mode s.machine.opened alone (and_true (ru
 
 none_fault : (c : Context) (harts : ℕ) (m : Memory) (r : Result ℕ Fault) → trap_of_fetched c harts m r ≡ None → fault_of_fetched c harts m r ≡ None
 none_fault c harts m (Err f) e = absurd (cc)
-none_fault c harts m (Ok word) e = by_word (word == ebreak_word) (word_fault c harts m word) e
+none_fault c harts m (Ok word) e = by_word (word == EBREAK) (word_fault c harts m word) e
   where
     by_word : (b : Bool) (f : Option Fault) → cond b (Some Compiled) (option_map FaultReason f) ≡ None → f ≡ None
     by_word true f e = absurd (cc)
     by_word false None e = refl
     by_word false (Some f) e = absurd (cc)
 
-none_behind : (p : Option ℕ) (r : Option Reason) → breakpoint_or p r ≡ None → r ≡ None
-none_behind None r e = e
-none_behind (Some i) r e = absurd (cc)
-
-is_none-None : {A : Type 0} (o : Option A) → is_none o ≡ true → o ≡ None
-is_none-None None e = refl
-is_none-None (Some x) e = absurd (false≢true e)
+none_after : (p : Option ℕ) (r : Option Reason) → breakpoint_or p r ≡ None → r ≡ None
+none_after None r e = e
+none_after (Some i) r e = absurd (cc)
 
 none_unless_start : (a b c : Bool) (r : Option Reason) → c ≡ false → cond (not a && b) (Some Start) (cond c None r) ≡ None → r ≡ None
 none_unless_start true b c r e h = sym (cond_false c None r e) ∙ h
@@ -111,12 +98,12 @@ none_unless_start false false c r e h = sym (cond_false c None r e) ∙ h
 fault_of-trap : (s : Machine) (h : ℕ) → (context_at s h).halted ≡ false → trap s h ≡ None → fault_of s h ≡ None
 unfolding trap fault_of
 fault_of-trap s h awake e =
-    none_fault (context_at s h) (length s.harts) s.memory (fetched_at s h) (none_behind (first_enabled (context_at s h).pc s.places) _ (none_unless_start s.opened (h == 0) (context_at s h).halted _ awake e))
+    none_fault (context_at s h) (hart_count s) s.seen.memory (fetched_at s h) (none_after (first_enabled (context_at s h).pc s.seen.places) _ (none_unless_start s.opened (h == 0) (context_at s h).halted _ awake e))
 
 fault_of-late_trap : (s : Machine) (h : ℕ) → (context_at s h).halted ≡ false → late_trap s h ≡ None → fault_of s h ≡ None
 unfolding late_trap fault_of
 fault_of-late_trap s h awake e =
-    none_fault (context_at s h) (length s.harts) s.memory (fetched_at s h) (none_unless_start s.opened (h == 0) (context_at s h).halted _ awake e)
+    none_fault (context_at s h) (hart_count s) s.seen.memory (fetched_at s h) (none_unless_start s.opened (h == 0) (context_at s h).halted _ awake e)
 
 fault_of-trap_in : (mode : Mode) (s : Machine) (h : ℕ) → (context_at s h).halted ≡ false → trap_in mode s h ≡ None → fault_of s h ≡ None
 fault_of-trap_in Free s h awake e = fault_of-trap s h awake e
@@ -126,10 +113,6 @@ fault_of-trap_in (Back m late) s h awake e = fault_of-late_trap s h awake e
 fault_of-trap_in (Leave m late) s h awake e = fault_of-late_trap s h awake e
 fault_of-trap_in (Over ending) s h awake e = fault_of-late_trap s h awake e
 
-not_true : (b : Bool) → not b ≡ true → b ≡ false
-not_true true e = absurd (false≢true e)
-not_true false e = refl
-
 -- a hart that may execute has no fault
 pub may_run-right : (s : State) (h : ℕ) → may_run s h ≡ true → fault_of s.machine h ≡ None
 may_run-right s h e =
@@ -138,7 +121,7 @@ may_run-right s h e =
     let q = and_true (not c.halted) _ p.1 in
     let r = and_true (not (is_takeable c)) _ q.1 in
     let t = and_true (nat_lt s.machine.steps s.machine.limit) _ r.1 in
-    fault_of-trap_in s.mode s.machine h (not_true c.halted q.0) (is_none-None (trap_in s.mode s.machine h) t.1)
+    fault_of-trap_in s.mode s.machine h (not_is c.halted q.0) (is_none-None (trap_in s.mode s.machine h) t.1)
 
 -- and there are steps left
 pub may_run-below : (s : State) (h : ℕ) → may_run s h ≡ true → s.machine.steps < s.machine.limit
@@ -148,6 +131,12 @@ may_run-below s h e =
     let r = and_true _ _ q.1 in
     let t = and_true (nat_lt s.machine.steps s.machine.limit) _ r.1 in
     ltb-true s.machine.steps s.machine.limit t.0
+
+pub may_take-below : (s : State) (h : ℕ) → may_take s h ≡ true → s.machine.steps < s.machine.limit
+may_take-below s h e =
+    let p = and_true (runs s.mode s.machine.opened h) _ e in
+    let q = and_true _ (nat_lt s.machine.steps s.machine.limit) p.1 in
+    ltb-true s.machine.steps s.machine.limit q.1
 
 not_owed : (late m h : ℕ) (b : Bool) (x : Mode) (mode : Mode) → (m == h) ≡ b → has_bit late m ≡ false → has_bit late h ≡ true → cond b x mode ≡ mode
 not_owed late m h false x mode e on_time runs_is = refl

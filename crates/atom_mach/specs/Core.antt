@@ -1,25 +1,31 @@
--- What the fields of the machine with one hart stand for.
-use Rattle.std.specs.Prelude.{drop}
+-- What the fields of the machine from the inside stand for.
+use Rattle.std.specs.Prelude.{ℕ, ◌+◌, List, [], drop, slice_index_or}
 use Rattle.mach_base.specs.Machine.{Machine}
+use Rattle.mach_base.specs.declared.event.Hart.{Hart}
+use Rattle.kdb_cmd.specs.State.{state_of as seen_of}
 use Rattle.atom_mach.specs.State.{State}
+use Rattle.atom_mach.specs.Session.{Cut, with_read, line_effect}
 use Rattle.atom_mach.specs.declared.machine.Core.{Core}
 
+-- its machine record
 abbrev pub machine_of : Core → Machine
 machine_of c = record {
-  harts = c.contexts.items;
-  memory = c.map;
-  places = c.kdb.breaks;
-  variables = c.kdb.env;
-  macros = c.kdb.macros.macros;
-  defining = c.kdb.macros.defining;
-  symbols = c.names;
+  seen = seen_of c.contexts.items c.map c.kdb c.names;
   limit = c.limit;
-  current = c.kdb.current;
-  unread = drop c.read c.lines.items;
+  unread = drop c.read c.script;
   lines_read = c.read;
   steps = c.steps;
   opened = c.opened;
 }
 
+-- its state
 abbrev pub state_of : Core → State
 state_of c = record { machine = machine_of c; mode = c.mode }
+
+-- its next line
+abbrev pub next_line : Core → List ℕ
+next_line c = slice_index_or c.script c.read []
+
+-- what the next line of a session gives
+abbrev pub next_effect : Core → Hart → ℕ → Cut
+next_effect c m late = line_effect m late (next_line c) (with_read (machine_of c) (drop (c.read + 1) c.script))

@@ -10,7 +10,7 @@ abbrev pub Moves : State → AStep → Bool → List ℕ → State → Type 0
 Moves s step true text next = does s step ≡ Some (record { text = text; next = next })
 Moves s step false text next = (does s step ≡ None) × (next ≡ s) × (text ≡ [])
 
--- the same; for want of memory an allowed step may not be made
+-- the same; where memory runs out an allowed step may not be made
 abbrev pub Tries : State → AStep → Result Bool OutOfMemory → List ℕ → State → Type 0
 Tries s step (Ok moved) text next = Moves s step moved text next
 Tries s step (Err lack) text next = does s step ≢ None

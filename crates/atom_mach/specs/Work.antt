@@ -1,9 +1,10 @@
--- How much a machine with one hart can still do: no run goes on for ever.
+-- How much a machine with one hart can still do: each turn leaves less, so no run of one goes on for ever.
 use Rattle.std.specs.Prelude.{ℕ, ◌+◌, ◌-◌, ◌*◌, length}
 use Rattle.atom_mach.specs.declared.step.Mode.{Mode}
 use Rattle.atom_mach.specs.declared.step.Mode.TheVariants.{Free, Hold, Pass, Back, Leave, Over}
 use Rattle.atom_mach.specs.State.{State}
 
+-- the part of the mode
 abbrev pub weight : Mode → ℕ
 weight Free = 1
 weight (Hold m late) = 1

@@ -1,5 +1,5 @@
 use crate::machine::Core;
-use crate::script::checked_lines;
+use crate::script::Script;
 use crate::step::{AStep, Mode, StepFault};
 use img_text::{Image, boot};
 use kdb_cmd::Kdb;
@@ -8,7 +8,7 @@ use std::alloc::Global;
 use std::marker::Model;
 use sym_map::Symbols;
 
-/// The atomic machine, in which a session with nobody late is one step.
+/// The atomic machine, in which a session with no late harts is one step.
 #[derive(Drop)]
 pub struct Atom {
     core: Core,
@@ -28,8 +28,8 @@ impl Model for Atom {
 
 impl Atom {
     ghost use Rattle.std.specs.Prelude.{◌≡◌, ◌<◌, ◌≤◌, ◌↔◌, Err, Ok, Some, None, IfOk, OnOk, length};
-    ghost use Rattle.atom_mach.specs.Script.{checked_script};
-    ghost use Rattle.atom_mach.specs.State.{start_state};
+    ghost use Rattle.mach_base.specs.declared.limits.TheConstants.{MOST_HARTS, MOST_STEPS};
+    ghost use Rattle.atom_mach.specs.State.{hart_count, start_state};
     ghost use Rattle.atom_mach.specs.Run.{Turns};
     ghost use Rattle.atom_mach.specs.Work.{work_left};
     ghost use Rattle.atom_mach.specs.Step.{does};
@@ -45,28 +45,31 @@ impl Atom {
         alloc: Global,
         image: &Image,
         names: Symbols,
-        script: &[u8],
+        script: Script,
         harts: u8,
         limit: u64,
     ) -> Result<Atom, OutOfMemory>
         requires some_harts { 1 ≤ harts }
-        requires few_harts { harts ≤ 16 }
-        requires right { checked_script script.now ≡ Ok tt }
+        requires few_harts { harts ≤ MOST_HARTS }
         requires low { 1 ≤ limit }
-        requires high { limit ≤ 4000000 }
-        ensures state { IfOk result (λ atom. atom ≡ start_state image.now names script.now harts limit) }
-        ensures limits { IfOk result (λ atom. length names ≤ 500000 → WithinLimits atom) }
+        requires high { limit ≤ MOST_STEPS }
+        ensures state { IfOk result (λ atom. atom ≡ start_state image.now names script harts limit) }
+        ensures limits { IfOk result (λ atom. WithinLimits atom) }
     {
+        names.keeps_limits();
         let booted = boot(alloc, image, harts)?;
-        let lines = checked_lines(alloc, script)?;
+        booted.map.keeps_limits();
         let kdb = Kdb::new(alloc)?;
+        kdb.env.keeps_limits();
+        kdb.macros.keeps_limits();
         Ok(Atom {
             core: Core {
+                alloc,
                 contexts: booted.ctxs,
                 map: booted.map,
                 kdb,
                 names,
-                lines,
+                script,
                 read: 0,
                 limit,
                 steps: 0,
@@ -79,13 +82,13 @@ impl Atom {
     /// Makes the first step that is allowed of taking the interrupt, opening the session, executing, and ending for
     /// one of the two endings of a free machine; answers what it prints.
     pub fn turn(&mut self) -> Result<Text, OutOfMemory>
-        requires one_hart { length self.old.machine.harts ≡ 1 }
+        requires one_hart { hart_count self.old.machine ≡ 1 }
         requires running { ending_of self.old.mode ≡ None }
         ensures step { IfOk result (λ text. Turns self.old text self.new) }
         ensures less { OnOk result (work_left self.new < work_left self.old) }
-        ensures harts { OnOk result (length self.new.machine.harts ≡ length self.old.machine.harts) }
+        ensures harts { OnOk result (hart_count self.new.machine ≡ hart_count self.old.machine) }
     {
-        let mut out = Vec::new(*self.core.lines.allocator());
+        let mut out = Vec::new(self.core.alloc);
         self.core.turn(&mut out)?;
         Ok(Text::from_vec(out))
     }
@@ -96,10 +99,11 @@ impl Atom {
         ensures done { IfOk result (λ text. does self.old step ≡ Some (record { text = text; next = self.new })) }
         ensures not_now { (result ≡ Err NotNow) ↔ (does self.old step ≡ None) }
         ensures kept { result ≡ Err NotNow → self.new ≡ self.old }
-        ensures fits { Fits (length self.new.machine.harts) self.new.mode }
+        ensures fits { Fits (hart_count self.new.machine) self.new.mode }
+        ensures harts { OnOk result (hart_count self.new.machine ≡ hart_count self.old.machine) }
         ensures late_sessions { OnOk result (LateSessionKeeps self.old step self.new) }
     {
-        let mut out = Vec::new(*self.core.lines.allocator());
+        let mut out = Vec::new(self.core.alloc);
         match self.core.try_step(&mut out, step) {
             Ok(true) => return Ok(Text::from_vec(out)),
             Ok(false) => return Err(StepFault::NotNow),

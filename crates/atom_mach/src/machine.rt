@@ -1,38 +1,47 @@
-ghost use Rattle.std.specs.Prelude.{◌≡◌, ◌+◌, ◌<◌, ◌≤◌, vec_len};
-ghost use Rattle.atom_mach.specs.Modes.{owed, Fits, Fits-prop, IsGathered, IsGathered-prop};
+//! The machine from the inside, and what may happen in it; its parts are in the folder `machine`.
+ghost use Rattle.std.specs.Prelude.{◌≡◌, ◌+◌, ◌<◌, ◌≤◌, length, vec_len};
+ghost use Rattle.mach_base.specs.declared.limits.TheConstants.{MOST_HARTS, MOST_LINES, MOST_STEPS};
+ghost use Rattle.atom_mach.specs.Modes.{owed, Fits, IsGathered};
+ghost use Rattle.atom_mach.specs.ModeFacts.{Fits-prop, IsGathered-prop};
 
+mod endings;
+mod lines;
+mod moves;
+mod sessions;
+mod turns;
+
+use crate::script::Script;
 use crate::step::Mode;
+use crate::traps::{fault_of_fetched, late_trap_of, trap_of};
 use hart_ctx::Context;
-use hart_step::fault_of;
 use kdb_cmd::Kdb;
-use mach_base::{Fault, Hart, Reason, Text, has_bit};
+use mach_base::{Fault, Hart, Reason, has_bit};
 use mem_map::Map;
+use std::alloc::Global;
 use sym_map::Symbols;
 use trap_ipi::takeable;
-
-/// The word `ebreak`.
-const EBREAK: u32 = 0x0010_0073;
 
 /// The machine from the inside.
 #[derive(Drop)]
 pub struct Core {
+    pub alloc: Global,
     /// One for each hart, 1 to 16.
     pub contexts: Vec<Context>,
     pub map: Map,
     pub kdb: Kdb,
     pub names: Symbols,
-    /// All lines of the script, of which `read` were read.
-    pub lines: Vec<Text>,
+    pub script: Script,
+    /// How many lines of the script were read.
     pub read: usize,
     pub limit: u64,
     pub steps: u64,
     pub opened: bool,
     pub mode: Mode,
     ghost some_harts: { 1 ≤ vec_len contexts },
-    ghost few_harts: { vec_len contexts ≤ 16 },
-    ghost in_range: { read ≤ vec_len lines },
-    ghost few_lines: { vec_len lines ≤ 4096 },
-    ghost few_steps: { limit ≤ 4000000 },
+    ghost few_harts: { vec_len contexts ≤ MOST_HARTS },
+    ghost in_range: { read ≤ length script },
+    ghost few_lines: { length script ≤ MOST_LINES },
+    ghost few_steps: { limit ≤ MOST_STEPS },
     ghost bounded: { steps + owed mode ≤ limit + read },
     ghost owed_lines: { owed mode ≤ read },
     ghost fits: { Fits (vec_len contexts) mode } by { Fits-prop (vec_len contexts) mode },
@@ -45,14 +54,16 @@ impl Core {
     ghost use Rattle.hart_ctx.specs.Context.{context_of};
     ghost use Rattle.trap_ipi.specs.Interrupt.{is_takeable};
     ghost use Rattle.atom_mach.specs.State.{context_at};
-    ghost use Rattle.atom_mach.specs.Modes.{owed, Fits, IsGathered};
-    ghost use Rattle.atom_mach.specs.Step.{is_hart, fault_of, fetched_at, trap_of_fetched, late_trap, trap, trap_in, runs, owes, may_run, may_pass, may_take, opening};
+    ghost use Rattle.atom_mach.specs.Modes.{runs, owes, owed, Fits, IsGathered};
+    ghost use Rattle.atom_mach.specs.Traps.{fault_of, late_trap, trap};
+    ghost use Rattle.atom_mach.specs.Session.{is_hart, opening_reason};
+    ghost use Rattle.atom_mach.specs.Step.{trap_in, may_run, may_pass, may_take};
     ghost use Rattle.atom_mach.specs.Core.{machine_of, state_of};
 
     /// The number of harts.
     pub fn harts(&self) -> u8
         ensures number { result ≡ length self.now.contexts.items }
-        ensures few { result ≤ 16 }
+        ensures few { result ≤ MOST_HARTS }
     {
         self.contexts.len() as u8
     }
@@ -73,63 +84,43 @@ impl Core {
     }
 
     /// The fault of the hart's instruction.
-    #[tactic(auto, unfolding(crate::specs::Step::fault_of))]
+    #[tactic(auto, unfolding(crate::specs::Traps::fault_of))]
     pub fn fault(&self, hart: Hart) -> Option<Fault>
         requires { hart.0 < vec_len self.now.contexts }
         ensures { result ≡ fault_of (machine_of self.now) hart.0 }
     {
         let context = self.context(hart);
-        match self.map.fetch(context.pc) {
-            Ok(word) => fault_of(context, self.harts(), &self.map, word),
-            Err(fault) => Some(fault),
-        }
-    }
-
-    /// The trap of the word at the hart's pc.
-    fn trap_of_word(&self, hart: Hart) -> Option<Reason>
-        requires { hart.0 < vec_len self.now.contexts }
-        ensures { result ≡ trap_of_fetched (context_at (machine_of self.now) hart.0) (length self.now.contexts.items) self.now.map (fetched_at (machine_of self.now) hart.0) }
-    {
-        let context = self.context(hart);
-        match self.map.fetch(context.pc) {
-            Err(fault) => Some(Reason::Fault(fault)),
-            Ok(EBREAK) => Some(Reason::Compiled),
-            Ok(word) => fault_of(context, self.harts(), &self.map, word).map(Reason::Fault),
-        }
+        fault_of_fetched(context, self.harts(), &self.map, self.map.fetch(context.pc))
     }
 
     /// The trap of a hart for which breakpoints don't count.
-    #[tactic(auto, unfolding(crate::specs::Step::late_trap))]
+    #[tactic(auto, unfolding(crate::specs::Traps::late_trap))]
     fn late_trap(&self, hart: Hart) -> Option<Reason>
         requires { hart.0 < vec_len self.now.contexts }
         ensures { result ≡ late_trap (machine_of self.now) hart.0 }
     {
-        if !self.opened && hart.0 == 0 {
-            return Some(Reason::Start);
-        }
-        if self.context(hart).halted {
-            return None;
-        }
-        self.trap_of_word(hart)
+        let context = self.context(hart);
+        let fetched = self.map.fetch(context.pc);
+        late_trap_of(self.opened, hart, context, self.harts(), &self.map, fetched)
     }
 
     /// The hart's trap.
-    #[tactic(auto, unfolding(crate::specs::Step::trap))]
+    #[tactic(auto, unfolding(crate::specs::Traps::trap))]
     pub fn trap(&self, hart: Hart) -> Option<Reason>
         requires { hart.0 < vec_len self.now.contexts }
         ensures { result ≡ trap (machine_of self.now) hart.0 }
     {
-        if !self.opened && hart.0 == 0 {
-            return Some(Reason::Start);
-        }
         let context = self.context(hart);
-        if context.halted {
-            return None;
-        }
-        if let Some(place) = self.kdb.breaks.enabled_at(context.pc) {
-            return Some(Reason::Breakpoint(place));
-        }
-        self.trap_of_word(hart)
+        let fetched = self.map.fetch(context.pc);
+        trap_of(
+            self.opened,
+            &self.kdb.breaks,
+            hart,
+            context,
+            self.harts(),
+            &self.map,
+            fetched,
+        )
     }
 
     /// The trap that keeps the hart from executing.
@@ -212,9 +203,9 @@ impl Core {
     }
 
     /// The reason for which the hart may open a session with these late harts.
-    pub fn opening(&self, hart: Hart, late: u64) -> Option<Reason>
+    pub fn opening_reason(&self, hart: Hart, late: u64) -> Option<Reason>
         requires { hart.0 < vec_len self.now.contexts }
-        ensures { result ≡ opening self.now.mode (machine_of self.now) hart.0 late }
+        ensures { result ≡ opening_reason self.now.mode (machine_of self.now) hart.0 late }
     {
         match self.mode {
             Mode::Free => self.trap(hart),

@@ -7,7 +7,7 @@ pub enum AStep {
     Instr(Hart),
     /// The hart takes its interrupt.
     Intr(Hart),
-    /// A whole session of the hart, with nobody late.
+    /// A whole session of the hart, with no late harts.
     Session(Hart),
     /// The hart opens a session with these late harts, a mask.
     Enter(Hart, u64),

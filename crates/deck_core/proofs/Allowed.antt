@@ -1,9 +1,9 @@
 -- What the condition of a call of the bus says.
 use Rattle.std.proofs.Common.{◌≡◌, ◌||◌, true, false, inl, inr}
 use Rattle.std.proofs.lemmas.Bool.{and_parts, or_cases, both_ways}
-use Rattle.deck_core.specs.Told.{Told}
-use Rattle.deck_core.specs.Contract.{is_allowed, is_legal, names_are_there}
-use Rattle.deck_core.specs.declared.act.Act.{Act}
+use Rattle.deck_core.specs.contract.Told.{Told}
+use Rattle.deck_core.specs.contract.Allowed.{is_allowed, is_legal, names_are_there}
+use Rattle.deck_core.specs.declared.plain.act.Act.{Act}
 
 -- the harts and places that an allowed call names are there
 pub allowed_names : (a : Act) (b : Told) → is_allowed a b ≡ true → names_are_there a b.harts ≡ true

@@ -1,30 +1,32 @@
 -- The conditions of the bus, and what else follows from the invariant.
 use Rattle.std.proofs.Common.{◌≡◌, ℕ, suc, ◌+◌, ◌-◌, ◌*◌, ◌%◌, ◌^◌, ◌<◌, ◌≤◌, ◌==◌, ◌&&◌, ◌||◌, Bool, true, false, not, nat_lt, refl, sym, ◌∙◌, ap, subst, inl, inr, arith, if◌then◌else◌, Option, Some, None, is_some, is_none}
 use Rattle.std.proofs.lemmas.Bool.{cases_Bool, eq-eqb, eqb-true, eqb-false, lt-ltb, both_ways, and_parts, and_from, and_right, or_cases, or_left, or_right, false_from_ne_true}
-use Rattle.deck_core.specs.Words.{has, least}
-use Rattle.deck_core.specs.Phases.{is_masters, is_shut, is_in_session, is_at_gate, late_of, is_marked, holds, called}
-use Rattle.deck_core.specs.Told.{Told}
-use Rattle.deck_core.specs.Configuration.{Configuration, lead_of}
-use Rattle.deck_core.specs.Contract.{HonestCall, is_lines, is_pass, is_leaving, comes_back}
-use Rattle.deck_core.specs.Tick.{act_of, check_answer, after_check}
+use Rattle.mach_base.specs.Masks.{has_bit, least}
+use Rattle.deck_core.specs.ticks.Phases.{is_masters, is_shut, is_in_session, is_at_gate, late_of, is_marked, holds, called}
+use Rattle.deck_core.specs.contract.Told.{Told}
+use Rattle.deck_core.specs.ticks.Configuration.{Configuration, lead_of}
+use Rattle.deck_core.specs.contract.Calls.{HonestCall}
+use Rattle.deck_core.specs.contract.Allowed.{is_lines, is_pass, is_leaving, comes_back}
+use Rattle.deck_core.specs.ticks.NextPhase.{act_of, check_answer, after_check}
 use Rattle.deck_core.specs.Invariant.{Sound, LateFits, IsPlanting, StepFits, MayPlantStep, session_fits, stage_fits, bit, openings}
-use Rattle.deck_core.specs.declared.notes.Sitting.{Sitting}
-use Rattle.deck_core.specs.declared.notes.Stage.{Stage}
-use Rattle.deck_core.specs.declared.notes.Stage.TheVariants as stage
-use Rattle.deck_core.specs.declared.phase.Phase.{Phase}
-use Rattle.deck_core.specs.declared.phase.Phase.TheVariants as phase
-use Rattle.deck_core.specs.declared.phase.Place.TheVariants as place
-use Rattle.deck_core.specs.declared.phase.Kept.{Kept}
-use Rattle.deck_core.specs.declared.phase.Then.{Then}
-use Rattle.deck_core.specs.declared.phase.Then.TheVariants as follow
-use Rattle.deck_core.specs.Contract.{is_allowed, is_legal, names_are_there, in_session, is_of, may_open, may_pull_step, is_address}
-use Rattle.deck_core.specs.Tick.{tick, tick_in, is_transaction, transacts, after_answer}
-use Rattle.deck_core.specs.declared.phase.Place.{Place}
-use Rattle.deck_core.specs.Laws.{CallIsAllowed, OneMaster, RunsUnmasked, SessionsNeverOverlap, GoneTrapDrops, GateIsBounded}
-use Rattle.deck_core.specs.declared.act.Act.{Act}
-use Rattle.deck_core.specs.declared.act.Act.TheVariants as act
-use Rattle.deck_core.specs.declared.act.Answer.{Answer}
-use Rattle.deck_core.proofs.Masks.{has-least}
+use Rattle.deck_core.specs.declared.plain.notes.Sitting.{Sitting}
+use Rattle.deck_core.specs.declared.plain.notes.Stage.{Stage}
+use Rattle.deck_core.specs.declared.plain.notes.Stage.TheVariants as stage
+use Rattle.deck_core.specs.declared.plain.phase.Phase.{Phase}
+use Rattle.deck_core.specs.declared.plain.phase.Phase.TheVariants as phase
+use Rattle.deck_core.specs.declared.plain.phase.Place.TheVariants as place
+use Rattle.deck_core.specs.declared.plain.phase.Kept.{Kept}
+use Rattle.deck_core.specs.declared.plain.phase.Then.{Then}
+use Rattle.deck_core.specs.declared.plain.phase.Then.TheVariants as follow
+use Rattle.deck_core.specs.contract.Allowed.{is_allowed, is_legal, names_are_there, in_session, is_of, may_open, may_pull_step, is_address}
+use Rattle.deck_core.specs.ticks.Tick.{tick, tick_in, transacts}
+use Rattle.deck_core.specs.ticks.NextPhase.{is_transaction, after_answer}
+use Rattle.deck_core.specs.declared.plain.phase.Place.{Place}
+use Rattle.deck_core.specs.laws.Facts.{CallIsAllowed, OneMaster, RunsUnmasked, SessionsNeverOverlap, GoneTrapDrops, GateIsBounded}
+use Rattle.deck_core.specs.declared.plain.act.Act.{Act}
+use Rattle.deck_core.specs.declared.plain.act.Act.TheVariants as act
+use Rattle.deck_core.specs.declared.plain.act.Answer.{Answer}
+use Rattle.mach_base.proofs.Bits.{has_bit-least}
 use Rattle.deck_core.proofs.Frame.{Mine, mine, master_of, put_same}
 use Rattle.deck_core.proofs.Elects.{called_is, bit_and_false}
 use Rattle.deck_core.proofs.Enters.{enter_step}
@@ -38,10 +40,10 @@ allowed_from a b names legal =
     (elim (cases_Bool b.over) [ inl o ↦ or_left b.over (is_legal a b) o | inr w ↦ or_right b.over (is_legal a b) (legal w) ])
 
 -- what the session of the master's phase is known to be
-session_is : (h : ℕ) (lead : Phase) (faults : ℕ) (session : Option Sitting) (test : Sitting → Bool) → is_in_session lead ≡ true → session_fits (suc h) lead faults session ≡ true → ((sitting : Sitting) → sitting.master.0 ≡ h → sitting.late ≡ late_of lead → stage_fits (has faults sitting.master.0) lead sitting.stage ≡ true → test sitting ≡ true) → in_session test session ≡ true
+session_is : (h : ℕ) (lead : Phase) (faults : ℕ) (session : Option Sitting) (test : Sitting → Bool) → is_in_session lead ≡ true → session_fits (suc h) lead faults session ≡ true → ((sitting : Sitting) → sitting.master.0 ≡ h → sitting.late ≡ late_of lead → stage_fits (has_bit faults sitting.master.0) lead sitting.stage ≡ true → test sitting ≡ true) → in_session test session ≡ true
 session_is h lead faults None test inside f t = absurd (both_ways (not (is_in_session lead)) (ap not inside) f)
 session_is h lead faults (Some sitting) test inside f t =
-    let p = and_parts ((suc h == suc sitting.master.0) && (sitting.late == late_of lead)) (stage_fits (has faults sitting.master.0) lead sitting.stage) f in
+    let p = and_parts ((suc h == suc sitting.master.0) && (sitting.late == late_of lead)) (stage_fits (has_bit faults sitting.master.0) lead sitting.stage) f in
     let q = and_parts (suc h == suc sitting.master.0) (sitting.late == late_of lead) p.0 in
     let same : suc h ≡ suc sitting.master.0 = eqb-true (suc h) (suc sitting.master.0) q.0 in
     t sitting (omega (arith, same)) (eqb-true sitting.late (late_of lead) q.1) p.1
@@ -50,14 +52,14 @@ session_is h lead faults (Some sitting) test inside f t =
 session_none : (h : ℕ) (lead : Phase) (faults : ℕ) (session : Option Sitting) → ((f : Bool) (at : Stage) → stage_fits f lead at ≡ false) → session_fits (suc h) lead faults session ≡ true → is_none session ≡ true
 session_none h lead faults None none f = refl
 session_none h lead faults (Some sitting) none f =
-    absurd (both_ways (stage_fits (has faults sitting.master.0) lead sitting.stage) (none (has faults sitting.master.0) sitting.stage)
-    (and_parts ((suc h == suc sitting.master.0) && (sitting.late == late_of lead)) (stage_fits (has faults sitting.master.0) lead sitting.stage) f).1)
+    absurd (both_ways (stage_fits (has_bit faults sitting.master.0) lead sitting.stage) (none (has_bit faults sitting.master.0) sitting.stage)
+    (and_parts ((suc h == suc sitting.master.0) && (sitting.late == late_of lead)) (stage_fits (has_bit faults sitting.master.0) lead sitting.stage) f).1)
 
 of_h : (h : ℕ) (sitting : Sitting) → sitting.master.0 ≡ h → is_of h sitting ≡ true
 of_h h sitting e = eq-eqb sitting.master.0 h e
 
 pub runs_unmasked : RunsUnmasked
-runs_unmasked c h s e = false_from_ne_true (has c.told.mask h) (λ x.
+runs_unmasked c h s e = false_from_ne_true (has_bit c.told.mask h) (λ x.
     let apart : (c.master == suc h) ≡ false = sym (s.harts h).masters ∙ ap is_masters e in
     elim (or_cases (c.master == suc h) (is_marked c.gate (c.phase h)) ((s.marks h).masked x)) [
       | inl q ↦ both_ways (c.master == suc h) apart q
@@ -94,13 +96,13 @@ send_allowed c h to s e =
 late_names : (c : Configuration) (h : ℕ) (late : ℕ) → h < c.told.harts → LateFits c.told.harts (suc h) late → names_are_there (act.Enter (record { 0 = h }) late) c.told.harts ≡ true
 late_names c h late lt f = and_from (nat_lt h c.told.harts) (nat_lt late (2 ^ c.told.harts)) (lt-ltb h c.told.harts lt) (lt-ltb late (2 ^ c.told.harts) f.below)
 
-not_late : (harts h late : ℕ) → LateFits harts (suc h) late → has late h ≡ false
-not_late harts h late f = false_from_ne_true (has late h) (λ x. both_ways (suc h == suc h) (f.others h x) (eq-eqb (suc h) (suc h) refl))
+not_late : (harts h late : ℕ) → LateFits harts (suc h) late → has_bit late h ≡ false
+not_late harts h late f = false_from_ne_true (has_bit late h) (λ x. both_ways (suc h == suc h) (f.others h x) (eq-eqb (suc h) (suc h) refl))
 
 first_enter_legal : (c : Configuration) (h : ℕ) (kept : Kept) (session : Option Sitting) → Mine c h (phase.Enter kept false) → c.told.over ≡ false → session_fits (suc h) (phase.Enter kept false) c.told.faults session ≡ true → may_open h kept.late c.told session ≡ true
 first_enter_legal c h kept None i w f =
-    and_from (not (has kept.late h)) (has c.told.traps h) (ap not (not_late c.told.harts h kept.late i.lead.range))
-    (elim (or_cases c.told.over (has c.told.traps h) (i.lead.trap refl)) [ inl o ↦ absurd (both_ways c.told.over w o) | inr t ↦ t ])
+    and_from (not (has_bit kept.late h)) (has_bit c.told.traps h) (ap not (not_late c.told.harts h kept.late i.lead.range))
+    (elim (or_cases c.told.over (has_bit c.told.traps h) (i.lead.trap refl)) [ inl o ↦ absurd (both_ways c.told.over w o) | inr t ↦ t ])
 first_enter_legal c h kept (Some sitting) i w f =
     absurd (both_ways false refl ((and_parts ((suc h == suc sitting.master.0) && (sitting.late == kept.late)) false f).1))
 
@@ -108,12 +110,12 @@ second_enter_legal : (c : Configuration) (h : ℕ) (kept : Kept) (session : Opti
 second_enter_legal c h kept None i none f = absurd (both_ways false refl f)
 second_enter_legal c h kept (Some sitting) i none f =
     session_is h (phase.Enter kept true) c.told.faults (Some sitting)
-    (λ s. (is_of h s && (s.late == kept.late)) && (is_none c.told.step && comes_back (has c.told.faults h) s.stage)) refl f
+    (λ s. (is_of h s && (s.late == kept.late)) && (is_none c.told.step && comes_back (has_bit c.told.faults h) s.stage)) refl f
     (λ s here late stage.
-    and_from (is_of h s && (s.late == kept.late)) (is_none c.told.step && comes_back (has c.told.faults h) s.stage)
+    and_from (is_of h s && (s.late == kept.late)) (is_none c.told.step && comes_back (has_bit c.told.faults h) s.stage)
     (and_from (is_of h s) (s.late == kept.late) (of_h h s here) (eq-eqb s.late kept.late late))
-    (and_from (is_none c.told.step) (comes_back (has c.told.faults h) s.stage) (ap is_none none)
-    (subst (λ k. comes_back (has c.told.faults k) s.stage ≡ true) here stage)))
+    (and_from (is_none c.told.step) (comes_back (has_bit c.told.faults h) s.stage) (ap is_none none)
+    (subst (λ k. comes_back (has_bit c.told.faults k) s.stage ≡ true) here stage)))
 
 enter_allowed : (c : Configuration) (h : ℕ) (kept : Kept) (reopens : Bool) → Sound c → c.phase h ≡ phase.Enter kept reopens → is_allowed (act.Enter (record { 0 = h }) kept.late) c.told ≡ true
 enter_allowed c h kept false s e =
@@ -129,9 +131,9 @@ pull_allowed : (c : Configuration) (h : ℕ) (kept : Kept) (left : ℕ) → Soun
 pull_allowed c h kept left s e =
     let i : Mine c h (phase.Pull kept left) = mine c h (phase.Pull kept left) s e refl in
     allowed_from (act.Pull (least left)) c.told (lt-ltb (least left) 16 (least_below left i.lead.range.1))
-    (λ w. and_from (in_session (λ s. is_lines s.stage) c.told.session) (has c.told.planted (least left))
+    (λ w. and_from (in_session (λ s. is_lines s.stage) c.told.session) (has_bit c.told.planted (least left))
     (session_is h (phase.Pull kept left) c.told.faults c.told.session (λ s. is_lines s.stage) refl (i.lead.working w).session (λ s here late at. at))
-    (ap (λ m. has m (least left)) (i.lead.working w).planted ∙ has-least left i.lead.range.1.some i.lead.range.1.places))
+    (ap (λ m. has_bit m (least left)) (i.lead.working w).planted ∙ has_bit-least left i.lead.range.1.some i.lead.range.1.places))
 
 lines_allowed : (c : Configuration) (h : ℕ) (kept : Kept) → Sound c → c.phase h ≡ phase.Lines kept → is_allowed (act.Line (record { 0 = h })) c.told ≡ true
 lines_allowed c h kept s e =
@@ -180,9 +182,9 @@ leaves faulting stage.Back x = refl
 leaves faulting stage.Leaving x = refl
 
 -- the stage in which the step word is taken out
-pulls : (b : Told) (sitting : Sitting) (kept : Kept) (follows : Then) → stage_fits (has b.faults sitting.master.0) (phase.PullStep kept follows) sitting.stage ≡ true → may_pull_step b sitting ≡ true
-pulls b sitting kept follow.Enter f = comes (has b.faults sitting.master.0) sitting.stage f
-pulls b sitting kept (follow.Plant left) f = leaves (has b.faults sitting.master.0) sitting.stage f
+pulls : (b : Told) (sitting : Sitting) (kept : Kept) (follows : Then) → stage_fits (has_bit b.faults sitting.master.0) (phase.PullStep kept follows) sitting.stage ≡ true → may_pull_step b sitting ≡ true
+pulls b sitting kept follow.Enter f = comes (has_bit b.faults sitting.master.0) sitting.stage f
+pulls b sitting kept (follow.Plant left) f = leaves (has_bit b.faults sitting.master.0) sitting.stage f
 
 pull_step_allowed : (c : Configuration) (h : ℕ) (kept : Kept) (follows : Then) → Sound c → c.phase h ≡ phase.PullStep kept follows → is_allowed act.PullStep c.told ≡ true
 pull_step_allowed c h kept follows s e =
@@ -195,15 +197,15 @@ pull_step_allowed c h kept follows s e =
 plant_allowed : (c : Configuration) (h : ℕ) (kept : Kept) (left : ℕ) → Sound c → c.phase h ≡ phase.Plant kept left → is_allowed (act.Plant (least left)) c.told ≡ true
 plant_allowed c h kept left s e =
     let i : Mine c h (phase.Plant kept left) = mine c h (phase.Plant kept left) s e refl in
-    let was : has left (least left) ≡ true = has-least left i.lead.range.1.some i.lead.range.1.places in
+    let was : has_bit left (least left) ≡ true = has_bit-least left i.lead.range.1.some i.lead.range.1.places in
     allowed_from (act.Plant (least left)) c.told (lt-ltb (least left) 16 (least_below left i.lead.range.1))
     (λ w. let f : IsPlanting c.told.planted c.told.enabled left = (i.lead.working w).planted in
-    let wanted : has c.told.enabled (least left) ≡ true = f.wanted (least left) was in
-    and_from (in_session (λ s. is_leaving s.stage) c.told.session) (is_none c.told.step && (has c.told.enabled (least left) && not (has c.told.planted (least left))))
+    let wanted : has_bit c.told.enabled (least left) ≡ true = f.wanted (least left) was in
+    and_from (in_session (λ s. is_leaving s.stage) c.told.session) (is_none c.told.step && (has_bit c.told.enabled (least left) && not (has_bit c.told.planted (least left))))
     (session_is h (phase.Plant kept left) c.told.faults c.told.session (λ s. is_leaving s.stage) refl (i.lead.working w).session (λ s here late at. at))
-    (and_from (is_none c.told.step) (has c.told.enabled (least left) && not (has c.told.planted (least left))) (ap is_none (i.lead.working w).step)
-    (and_from (has c.told.enabled (least left)) (not (has c.told.planted (least left))) wanted
-    (ap not (f.others (least left) ∙ and_right (has c.told.enabled (least left)) (not (has left (least left))) (ap not was))))))
+    (and_from (is_none c.told.step) (has_bit c.told.enabled (least left) && not (has_bit c.told.planted (least left))) (ap is_none (i.lead.working w).step)
+    (and_from (has_bit c.told.enabled (least left)) (not (has_bit c.told.planted (least left))) wanted
+    (ap not (f.others (least left) ∙ and_right (has_bit c.told.enabled (least left)) (not (has_bit left (least left))) (ap not was))))))
 
 close_allowed : (c : Configuration) (h : ℕ) (kept : Kept) → Sound c → c.phase h ≡ phase.Close kept → is_allowed (act.Close (record { 0 = h })) c.told ≡ true
 close_allowed c h kept s e =
@@ -300,7 +302,7 @@ pub gone_trap_drops : GoneTrapDrops
 unfolding tick
 gone_trap_drops c h next s e m gone t =
     let acts : HonestCall (act.Check (record { 0 = h })) c.told t.answer t.after = subst (λ q. HonestCall (act_of h q) c.told t.answer t.after) e (t.honest m) in
-    let none : is_some acts.does.0 ≡ false = acts.does.1.1.some ∙ and_right (not c.told.over) (has c.told.traps h) gone in
+    let none : is_some acts.does.0 ≡ false = acts.does.1.1.some ∙ and_right (not c.told.over) (has_bit c.told.traps h) gone in
     ap (λ x. x.phase h) t.ticked
     ∙ (ap (λ q. (tick_in q h t.answer t.after c).phase h) e
     ∙ (given_phase c h phase.Own (c.place h) t.answer t.after (and_parts (is_transaction (c.phase h)) (holds (c.place h)) m).1

@@ -2,17 +2,18 @@
 use Rattle.std.proofs.Common.{◌≡◌, ℕ, suc, ◌+◌, ◌-◌, ◌*◌, ◌%◌, ◌^◌, ◌<◌, ◌≤◌, ◌==◌, ◌&&◌, ◌⊎◌, Bool, true, false, not, nat_lt, refl, sym, ◌∙◌, ap, subst, inl, inr, arith, if◌then◌else◌, Option, None, is_some}
 use Rattle.std.proofs.lemmas.Bool.{cases_eq, cases_lt, cases_Bool, eq-eqb, ne_eqb, eqb-false, ltb-true, ltb-false, lt-ltb, le-ltb, both_ways, and_parts, or_right, not-true, cond-true, cond-false}
 use Rattle.std.proofs.lemmas.Nat.{pow_pos}
-use Rattle.deck_core.specs.Words.{has, mask_with, all_but}
-use Rattle.deck_core.specs.Phases.{is_shut, is_in_session, has_read, is_at_gate, holds, counts, called}
-use Rattle.deck_core.specs.Told.{Told, IsTold}
-use Rattle.deck_core.specs.Configuration.{Configuration, put}
-use Rattle.deck_core.specs.Contract.{Changes, sent}
-use Rattle.deck_core.specs.Tick.{gives, check_answer, after_check, after_send, first_look, entering, skipping}
+use Rattle.mach_base.specs.Masks.{has_bit, mask_with, all_but}
+use Rattle.deck_core.specs.ticks.Phases.{is_shut, is_in_session, has_read, is_at_gate, holds, counts, called}
+use Rattle.deck_core.specs.contract.Told.{Told, IsTold}
+use Rattle.deck_core.specs.ticks.Configuration.{Configuration, put}
+use Rattle.deck_core.specs.contract.Calls.{Changes, sent}
+use Rattle.deck_core.specs.ticks.Tick.{gives}
+use Rattle.deck_core.specs.ticks.NextPhase.{check_answer, after_check, after_send, first_look, entering, skipping}
 use Rattle.deck_core.specs.Invariant.{Sound, MarkFits, LeadFits, KeepsInRange, LateFits, PlantedFits, StepFits, bit, openings}
-use Rattle.deck_core.specs.declared.phase.Phase.{Phase}
-use Rattle.deck_core.specs.declared.phase.Phase.TheVariants as phase
-use Rattle.deck_core.specs.Laws.{OwnKeeps, ShutKeeps, SendKeeps}
-use Rattle.deck_core.proofs.Masks.{has-zero, has-with_same, has-all_but_inside, all_but-lt, with-lt}
+use Rattle.deck_core.specs.declared.plain.phase.Phase.{Phase}
+use Rattle.deck_core.specs.declared.plain.phase.Phase.TheVariants as phase
+use Rattle.deck_core.specs.laws.Keeps.{OwnKeeps, ShutKeeps, SendKeeps}
+use Rattle.mach_base.proofs.Bits.{has_bit-zero, has_bit-with_same, has_bit-all_but_inside, all_but-lt, mask_with-lt}
 use Rattle.deck_core.proofs.Frame.{stays, Mine, mine, master_moves, master_gives}
 use Rattle.deck_core.proofs.Transactions.{tick_at, call_keeps}
 use Rattle.deck_core.proofs.Outside.{own_of, no_session}
@@ -28,7 +29,7 @@ uncounted harts mask gate m k lead lead2 p none f = record {
 pub no_marks : (harts mask gate m k : ℕ) (lead p : Phase) → mask ≡ 0 → counts harts lead k ≡ false → MarkFits harts mask gate m lead p k
 no_marks harts mask gate m k lead p empty none = record {
   gathered = λ e. absurd (both_ways (counts harts lead k) none ((and_parts (counts harts lead k) (not (m == suc k)) e).0));
-  masked = λ e. absurd (both_ways (has mask k) (ap (λ x. has x k) empty ∙ has-zero k) e);
+  masked = λ e. absurd (both_ways (has_bit mask k) (ap (λ x. has_bit x k) empty ∙ has_bit-zero k) e);
 }
 
 pub bit_and_false : (b : Bool) → bit (b && false) ≡ 0
@@ -38,16 +39,16 @@ bit_and_false false = refl
 -- ---- Own
 
 -- the check of the trap leads on
-to_shut : (c : Configuration) (h : ℕ) → LeadFits c.limit (suc h) c.gate phase.Own c.told → (not c.told.over && has c.told.traps h) ≡ true → LeadFits c.limit (suc h) c.gate phase.Shut c.told
+to_shut : (c : Configuration) (h : ℕ) → LeadFits c.limit (suc h) c.gate phase.Own c.told → (not c.told.over && has_bit c.told.traps h) ≡ true → LeadFits c.limit (suc h) c.gate phase.Shut c.told
 to_shut c h f t =
-    let parts = and_parts (not c.told.over) (has c.told.traps h) t in
+    let parts = and_parts (not c.told.over) (has_bit c.told.traps h) t in
     let working : c.told.over ≡ false = not-true c.told.over parts.0 in
     record {
       range = tt;
       low = f.low;
       parity = f.parity;
       mask = f.mask;
-      trap = λ x. or_right c.told.over (has c.told.traps h) parts.1;
+      trap = λ x. or_right c.told.over (has_bit c.told.traps h) parts.1;
       lines =
           (let g : openings c.gate ≤ c.told.lines + bit (false && true) = subst (λ b. openings c.gate ≤ c.told.lines + bit (b && true)) working f.lines in
           omega (arith, g));
@@ -77,7 +78,7 @@ to_drop c h f = record {
   };
 }
 
-checked : (c : Configuration) (h : ℕ) → Sound c → c.phase h ≡ phase.Own → holds (c.place h) ≡ true → (trapped : Bool) → trapped ≡ (not c.told.over && has c.told.traps h) → Sound (gives h (after_check trapped) c.told c)
+checked : (c : Configuration) (h : ℕ) → Sound c → c.phase h ≡ phase.Own → holds (c.place h) ≡ true → (trapped : Bool) → trapped ≡ (not c.told.over && has_bit c.told.traps h) → Sound (gives h (after_check trapped) c.told c)
 checked c h s e held true t =
     let i : Mine c h phase.Own = mine c h phase.Own s e refl in
     master_gives c h phase.Own phase.Shut c.told s i (record {
@@ -112,14 +113,14 @@ own_keeps c h a after s lt e honest = tick_at c h phase.Own a after e
 -- the late harts are others than the master
 pub late_others : (harts h gathered : ℕ) → gathered < 2 ^ harts → h < harts → LateFits harts (suc h) (all_but harts (mask_with gathered h))
 late_others harts h gathered lt below =
-    let small : mask_with gathered h < 2 ^ harts = with-lt harts gathered h lt below in
+    let small : mask_with gathered h < 2 ^ harts = mask_with-lt harts gathered h lt below in
     record {
       below = all_but-lt harts (mask_with gathered h) small;
       others = λ k e. ne_eqb (suc h) (suc k) (λ x.
           let same : k ≡ h = omega (arith, x) in
-          both_ways (has (all_but harts (mask_with gathered h)) h)
-          (has-all_but_inside harts (mask_with gathered h) h below ∙ ap not (has-with_same gathered h))
-          (subst (λ j. has (all_but harts (mask_with gathered h)) j ≡ true) same e));
+          both_ways (has_bit (all_but harts (mask_with gathered h)) h)
+          (has_bit-all_but_inside harts (mask_with gathered h) h below ∙ ap not (has_bit-with_same gathered h))
+          (subst (λ j. has_bit (all_but harts (mask_with gathered h)) j ≡ true) same e));
     }
 
 pub skipping_other : (h k : ℕ) → (suc h == suc (skipping h k)) ≡ false
@@ -204,9 +205,9 @@ shut_in c h s e false t =
       gate_grows = omega arith;
       marks = λ k ne. record {
         gathered = λ x.
-            let p = and_parts (nat_lt k c.told.harts) (not (has late k)) ((and_parts (counts c.told.harts (entering c.told.harts h 0) k) (not (suc h == suc k)) x).0) in
+            let p = and_parts (nat_lt k c.told.harts) (not (has_bit late k)) ((and_parts (counts c.told.harts (entering c.told.harts h 0) k) (not (suc h == suc k)) x).0) in
             absurd (ne (omega (arith, ltb-true k c.told.harts p.0, alone, i.below)));
-        masked = λ x. absurd (both_ways (has c.told.mask k) (ap (λ m. has m k) (i.lead.mask refl) ∙ has-zero k) x);
+        masked = λ x. absurd (both_ways (has_bit c.told.mask k) (ap (λ m. has_bit m k) (i.lead.mask refl) ∙ has_bit-zero k) x);
       };
       lead_fits = shut_lead c h (entering c.told.harts h 0) i.lead
           (late_others c.told.harts h 0 (pow_pos c.told.harts) i.below)
@@ -283,13 +284,13 @@ send_in c h to sends s e held one fits false t =
       old_number = tt;
       own_moves = stays c.own h 1 (own_of c h (phase.Send to) s e);
       gate_grows = omega arith;
-      marks = λ k ne. uncounted c.told.harts c.told.mask c.gate (suc h) k (phase.Send to) (first_look h) (c.phase k) (has-zero k) (i.marks k);
+      marks = λ k ne. uncounted c.told.harts c.told.mask c.gate (suc h) k (phase.Send to) (first_look h) (c.phase k) (has_bit-zero k) (i.marks k);
       lead_fits = send_lead c.limit h c.gate to (first_look h) c.told sends i.lead
           (record {
             next = record { below = two; other = skipping_other h 0 };
             rounds = s.limit;
             gathered = pow_pos c.told.harts;
-            others = λ k x. absurd (both_ways (has 0 k) (has-zero k) x);
+            others = λ k x. absurd (both_ways (has_bit 0 k) (has_bit-zero k) x);
           }) one
           (called_last c.told.harts h to i.below i.lead.range.below i.lead.range.other (ltb-false (skipping h (to + 1)) c.told.harts t)) refl refl refl refl (λ x y z. z) (λ x y z w v. v);
     })

@@ -1,23 +1,24 @@
 -- What the phases of an open session have in common, and the opening of a session.
 use Rattle.std.proofs.Common.{◌≡◌, ℕ, suc, ◌+◌, ◌-◌, ◌*◌, ◌^◌, ◌<◌, ◌≤◌, ◌==◌, ◌&&◌, Bool, true, false, not, nat_lt, refl, sym, ◌∙◌, ap, subst, inl, inr, arith, if◌then◌else◌, Option, Some, None}
 use Rattle.std.proofs.lemmas.Bool.{cases_Bool, eq-eqb, ne_eqb, eqb-true, eqb-false, lt-ltb, both_ways, and_parts, and_from, or_cases, or_right}
-use Rattle.deck_core.specs.Words.{has, all_but}
-use Rattle.deck_core.specs.Phases.{is_masters, own_word, is_shut, is_before_opening, is_in_session, is_at_gate, late_of, is_marked, KeepsOldNumber, holds, counts, called}
-use Rattle.deck_core.specs.Told.{Told, IsTold}
-use Rattle.deck_core.specs.Configuration.{Configuration}
-use Rattle.deck_core.specs.Tick.{gives, pulling, after_enter, enter_answer}
+use Rattle.mach_base.specs.Masks.{has_bit, all_but}
+use Rattle.deck_core.specs.ticks.Phases.{is_masters, own_word, is_shut, is_before_opening, is_in_session, is_at_gate, late_of, is_marked, KeepsOldNumber, holds, counts, called}
+use Rattle.deck_core.specs.contract.Told.{Told, IsTold}
+use Rattle.deck_core.specs.ticks.Configuration.{Configuration}
+use Rattle.deck_core.specs.ticks.Tick.{gives}
+use Rattle.deck_core.specs.ticks.NextPhase.{pulling, after_enter, enter_answer}
 use Rattle.deck_core.specs.Invariant.{Sound, Working, KeepsInRange, LateFits, StepFits, session_fits, stage_fits, bit, openings}
-use Rattle.deck_core.specs.declared.notes.Sitting.{Sitting}
-use Rattle.deck_core.specs.declared.notes.Stage.{Stage}
-use Rattle.deck_core.specs.declared.notes.Stage.TheVariants as stage
-use Rattle.deck_core.specs.declared.phase.Phase.{Phase}
-use Rattle.deck_core.specs.declared.phase.Phase.TheVariants as phase
-use Rattle.deck_core.specs.declared.phase.Kept.{Kept}
-use Rattle.deck_core.specs.declared.phase.Then.{Then}
-use Rattle.deck_core.specs.Contract.{EnterGives, opened, mask_inside}
-use Rattle.deck_core.specs.Laws.{EnterKeeps}
-use Rattle.deck_core.specs.declared.act.Entered.{Entered}
-use Rattle.deck_core.proofs.Masks.{has-all_but_inside, all_but-lt, has-below}
+use Rattle.deck_core.specs.declared.plain.notes.Sitting.{Sitting}
+use Rattle.deck_core.specs.declared.plain.notes.Stage.{Stage}
+use Rattle.deck_core.specs.declared.plain.notes.Stage.TheVariants as stage
+use Rattle.deck_core.specs.declared.plain.phase.Phase.{Phase}
+use Rattle.deck_core.specs.declared.plain.phase.Phase.TheVariants as phase
+use Rattle.deck_core.specs.declared.plain.phase.Kept.{Kept}
+use Rattle.deck_core.specs.declared.plain.phase.Then.{Then}
+use Rattle.deck_core.specs.contract.Calls.{EnterGives, opened, mask_inside}
+use Rattle.deck_core.specs.laws.Keeps.{EnterKeeps}
+use Rattle.deck_core.specs.declared.plain.act.Entered.{Entered}
+use Rattle.mach_base.proofs.Bits.{has_bit-all_but_inside, all_but-lt, has_bit-below}
 use Rattle.deck_core.proofs.Frame.{stays, Mine, mine, master_gives}
 use Rattle.deck_core.proofs.Transactions.{tick_at, call_keeps}
 use Rattle.deck_core.proofs.Outside.{own_of}
@@ -39,7 +40,7 @@ pub record Inside (p : Phase) : Type 0 where
   pub before : is_before_opening p ≡ false
 
 -- the master goes on inside its session: the gate, the calls and the late harts stay
-pub inside_gives : (c : Configuration) (h : ℕ) (from p : Phase) (b : Told) → Sound c → c.phase h ≡ from → Within from → Inside p → is_in_session p ≡ true → holds (c.place h) ≡ true → IsTold b → b.harts ≡ c.told.harts → ((k : ℕ) → (k ≡ h → ⊥) → has b.mask k ≡ true → is_marked c.gate (c.phase k) ≡ true) → (c.told.over ≡ true → b.over ≡ true) → c.told.lines ≤ b.lines → b.sends ≡ c.told.sends → KeepsInRange c.limit c.told.harts (suc h) p → (b.over ≡ false → Working (suc h) c.gate p b) → Sound (gives h p b c)
+pub inside_gives : (c : Configuration) (h : ℕ) (from p : Phase) (b : Told) → Sound c → c.phase h ≡ from → Within from → Inside p → is_in_session p ≡ true → holds (c.place h) ≡ true → IsTold b → b.harts ≡ c.told.harts → ((k : ℕ) → (k ≡ h → ⊥) → has_bit b.mask k ≡ true → is_marked c.gate (c.phase k) ≡ true) → (c.told.over ≡ true → b.over ≡ true) → c.told.lines ≤ b.lines → b.sends ≡ c.told.sends → KeepsInRange c.limit c.told.harts (suc h) p → (b.over ≡ false → Working (suc h) c.gate p b) → Sound (gives h p b c)
 inside_gives c h from p b s e w n session held fits harts mask over lines sends range working =
     let i : Mine c h from = mine c h from s e w.masters in
     master_gives c h from p b s i (record {
@@ -73,9 +74,9 @@ inside_gives c h from p b s e w n session held fits harts mask over lines sends 
     fits held harts over
 
 -- the harts in the mask other than the master are marked
-pub mask_marked : (c : Configuration) (h : ℕ) (from : Phase) (b : Told) → Mine c h from → b.mask ≡ c.told.mask → (k : ℕ) → (k ≡ h → ⊥) → has b.mask k ≡ true → is_marked c.gate (c.phase k) ≡ true
+pub mask_marked : (c : Configuration) (h : ℕ) (from : Phase) (b : Told) → Mine c h from → b.mask ≡ c.told.mask → (k : ℕ) → (k ≡ h → ⊥) → has_bit b.mask k ≡ true → is_marked c.gate (c.phase k) ≡ true
 mask_marked c h from b i same k ne x =
-    elim (or_cases (suc h == suc k) (is_marked c.gate (c.phase k)) ((i.marks k).masked (ap (λ m. has m k) (sym same) ∙ x))) [
+    elim (or_cases (suc h == suc k) (is_marked c.gate (c.phase k)) ((i.marks k).masked (ap (λ m. has_bit m k) (sym same) ∙ x))) [
       | inl q ↦ absurd (ne (omega (arith, eqb-true (suc h) (suc k) q)))
       | inr q ↦ q
     ]
@@ -118,9 +119,9 @@ ended_gives c h from p s e w n session held o range =
     inside_gives c h from p c.told s e w n session held s.told refl (mask_marked c h from c.told i refl) (λ x. x) (omega arith) refl range (ended (suc h) c.gate p c.told o)
 
 -- the session of the master, as it was opened
-pub sits : (h late faults : ℕ) (at : Stage) (lead : Phase) → late_of lead ≡ late → stage_fits (has faults h) lead at ≡ true → session_fits (suc h) lead faults (Some (record { master = record { 0 = h }; late = late; stage = at })) ≡ true
+pub sits : (h late faults : ℕ) (at : Stage) (lead : Phase) → late_of lead ≡ late → stage_fits (has_bit faults h) lead at ≡ true → session_fits (suc h) lead faults (Some (record { master = record { 0 = h }; late = late; stage = at })) ≡ true
 sits h late faults at lead same fits =
-    and_from ((suc h == suc h) && (late == late_of lead)) (stage_fits (has faults h) lead at)
+    and_from ((suc h == suc h) && (late == late_of lead)) (stage_fits (has_bit faults h) lead at)
     (and_from (suc h == suc h) (late == late_of lead) (eq-eqb (suc h) (suc h) refl) (eq-eqb late (late_of lead) (sym same))) fits
 
 -- ---- Enter
@@ -155,17 +156,17 @@ pulling_range limit harts m kept left f lt false z =
     (f, record { some = omega (arith, ne); places = lt })
 
 -- the harts of the mask after the opening are marked
-inside_marked : (c : Configuration) (h : ℕ) (kept : Kept) (reopens : Bool) → Mine c h (phase.Enter kept reopens) → c.told.over ≡ false → (session : Option Sitting) → c.told.session ≡ session → (k : ℕ) → (k ≡ h → ⊥) → has (mask_inside kept.late c.told session) k ≡ true → is_marked c.gate (c.phase k) ≡ true
+inside_marked : (c : Configuration) (h : ℕ) (kept : Kept) (reopens : Bool) → Mine c h (phase.Enter kept reopens) → c.told.over ≡ false → (session : Option Sitting) → c.told.session ≡ session → (k : ℕ) → (k ≡ h → ⊥) → has_bit (mask_inside kept.late c.told session) k ≡ true → is_marked c.gate (c.phase k) ≡ true
 inside_marked c h kept reopens i w (Some sitting) t k ne x = mask_marked c h (phase.Enter kept reopens) c.told i refl k ne x
 inside_marked c h kept true i w None t k ne x =
     absurd (both_ways false refl (subst (λ z. session_fits (suc h) (phase.Enter kept true) c.told.faults z ≡ true) t (i.lead.working w).session))
 inside_marked c h kept false i w None t k ne x =
     let small : kept.late < 2 ^ c.told.harts = i.lead.range.below in
-    let below : k < c.told.harts = has-below (all_but c.told.harts kept.late) c.told.harts k (all_but-lt c.told.harts kept.late small) x in
-    let in_time : not (has kept.late k) ≡ true = sym (has-all_but_inside c.told.harts kept.late k below) ∙ x in
+    let below : k < c.told.harts = has_bit-below (all_but c.told.harts kept.late) c.told.harts k (all_but-lt c.told.harts kept.late small) x in
+    let in_time : not (has_bit kept.late k) ≡ true = sym (has_bit-all_but_inside c.told.harts kept.late k below) ∙ x in
     (i.marks k).gathered
-    (and_from (nat_lt k c.told.harts && not (has kept.late k)) (not (suc h == suc k))
-    (and_from (nat_lt k c.told.harts) (not (has kept.late k)) (lt-ltb k c.told.harts below) in_time)
+    (and_from (nat_lt k c.told.harts && not (has_bit kept.late k)) (not (suc h == suc k))
+    (and_from (nat_lt k c.told.harts) (not (has_bit kept.late k)) (lt-ltb k c.told.harts below) in_time)
     (ap not (ne_eqb (suc h) (suc k) (λ q. ne (omega (arith, q))))))
 
 -- there is no step word when a session opens
@@ -179,7 +180,7 @@ entered_in c h kept reopens after s e held w g fits =
     let planted : ℕ = c.told.planted in
     inside_gives c h (phase.Enter kept reopens) (pulling kept planted) after s e (enter_within kept reopens) (pulling_inside kept planted z) (pulling_session kept planted z) held fits
     (ap (λ b. b.harts) g)
-    (λ k ne x. inside_marked c h kept reopens i w c.told.session refl k ne (ap (λ b. has b.mask k) (sym g) ∙ x))
+    (λ k ne x. inside_marked c h kept reopens i w c.told.session refl k ne (ap (λ b. has_bit b.mask k) (sym g) ∙ x))
     (λ o. absurd (both_ways c.told.over w o))
     (subst (λ b. c.told.lines ≤ b.lines) (sym g) (omega arith))
     (ap (λ b. b.sends) g)

@@ -5,31 +5,34 @@ use Rattle.std.proofs.Props.{props}
 use Rattle.std.proofs.Math.Bool.{Bool-set}
 use Rattle.std.proofs.Math.Logic.{∥∥₁_map, ∥∥₁_elim}
 use Rattle.std.proofs.lemmas.Bool.{both_ways, and_parts, and_left, and_right, and_from, cases_eq, cases_Bool, cond-true, cond-false, not-true, not-false}
-use Rattle.deck_core.specs.Phases.{holds}
-use Rattle.deck_core.specs.Told.{Told}
-use Rattle.deck_core.specs.Configuration.{Configuration, put}
-use Rattle.deck_core.specs.Contract.{HonestCall, CallLeaves, Changes, LineLeaves, PassLeaves, is_allowed, sent, pulled, replanted, step_planted, step_pulled}
-use Rattle.deck_core.specs.Tick.{tick, tick_in, Ticks, is_transaction, makes_call, act_of, after_answer, peeks, takes, gives, transacts, writes, enters, goes, waits_at, after_gate, tries_master, is_busy, CanGoOn, after_look, mark_counts}
-use Rattle.deck_core.specs.Words.{turn_word, mask_of}
+use Rattle.deck_core.specs.ticks.Phases.{holds}
+use Rattle.deck_core.specs.contract.Told.{Told}
+use Rattle.deck_core.specs.ticks.Configuration.{Configuration, put}
+use Rattle.deck_core.specs.contract.Calls.{HonestCall, CallLeaves, Changes, LineLeaves, PassLeaves, sent, pulled, replanted, step_planted, step_pulled}
+use Rattle.deck_core.specs.contract.Allowed.{is_allowed}
+use Rattle.deck_core.specs.ticks.Tick.{tick, tick_in, Ticks, makes_call, peeks, takes, gives, transacts, writes, enters, goes, waits_at, tries_master, is_busy, mark_counts}
+use Rattle.deck_core.specs.ticks.NextPhase.{is_transaction, act_of, after_answer, after_gate, CanGoOn, after_look}
+use Rattle.deck_core.specs.plain.Words.{turn_word, mask_of}
 use Rattle.deck_core.specs.Invariant.{Sound}
-use Rattle.deck_core.specs.Laws.{GiveKeeps}
-use Rattle.deck_core.specs.Seat.{seat_of, WholeTicks, WholeGives, clears, after_clear, sees_gate, is_peek, is_answer_of, looks_in}
-use Rattle.deck_core.specs.declared.phase.Phase.{Phase}
-use Rattle.deck_core.specs.declared.phase.Phase.TheVariants as phase
-use Rattle.deck_core.specs.declared.phase.Place.{Place}
-use Rattle.deck_core.specs.declared.phase.Place.TheVariants as place
-use Rattle.deck_core.specs.declared.act.Answer.{Answer}
-use Rattle.deck_core.specs.declared.act.Answer.TheVariants as answer
-use Rattle.deck_core.specs.declared.phase.Looks.{Looks}
-use Rattle.deck_core.specs.declared.act.Act.{Act}
-use Rattle.deck_core.specs.declared.act.Act.TheVariants as act
-use Rattle.deck_core.specs.declared.act.Lined.{Lined}
-use Rattle.deck_core.specs.declared.act.Lined.TheVariants as lined
-use Rattle.deck_core.specs.declared.act.Passed.{Passed}
-use Rattle.deck_core.specs.declared.act.Passed.TheVariants as passed
+use Rattle.deck_core.specs.laws.Keeps.{GiveKeeps}
+use Rattle.deck_core.specs.decks.Seat.{seat_of, WholeTicks, WholeGives, clears, sees_gate, is_peek, is_answer_of, looks_in}
+use Rattle.deck_core.specs.ticks.NextPhase.{after_clear}
+use Rattle.deck_core.specs.declared.plain.phase.Phase.{Phase}
+use Rattle.deck_core.specs.declared.plain.phase.Phase.TheVariants as phase
+use Rattle.deck_core.specs.declared.plain.phase.Place.{Place}
+use Rattle.deck_core.specs.declared.plain.phase.Place.TheVariants as place
+use Rattle.deck_core.specs.declared.plain.act.Answer.{Answer}
+use Rattle.deck_core.specs.declared.plain.act.Answer.TheVariants as answer
+use Rattle.deck_core.specs.declared.plain.phase.Looks.{Looks}
+use Rattle.deck_core.specs.declared.plain.act.Act.{Act}
+use Rattle.deck_core.specs.declared.plain.act.Act.TheVariants as act
+use Rattle.deck_core.specs.declared.plain.act.Lined.{Lined}
+use Rattle.deck_core.specs.declared.plain.act.Lined.TheVariants as lined
+use Rattle.deck_core.specs.declared.plain.act.Passed.{Passed}
+use Rattle.deck_core.specs.declared.plain.act.Passed.TheVariants as passed
 use Rattle.deck_core.proofs.Frame.{put_same, put_other, mine}
 use Rattle.deck_core.proofs.Conditions.{call_is_allowed}
-use Rattle.deck_core.proofs.Ticks.{every_tick_keeps}
+use Rattle.deck_core.proofs.EveryTick.{every_tick_keeps}
 
 -- a tick in a phase that is no transaction
 pub quiet : (c next : Configuration) (h : ℕ) (p : Phase) → c.phase h ≡ p → is_transaction p ≡ false → next ≡ tick_in p h answer.Send c.told c → Ticks h c next

@@ -1,16 +1,18 @@
 -- What every tick has in common: one hart moves, and the others stay where they are.
 use Rattle.std.proofs.Common.{◌≡◌, ℕ, suc, zero, ◌^◌, ◌<◌, ◌≤◌, ◌==◌, ◌||◌, Bool, true, false, not, refl, sym, ◌∙◌, ap, subst, inl, inr, arith}
 use Rattle.std.proofs.lemmas.Bool.{cases_eq, eq-eqb, ne_eqb, eqb-true, both_ways, cond-true, cond-false, and_parts, or_right, or_left}
-use Rattle.deck_core.specs.Words.{has, mask_of, holder_of}
-use Rattle.deck_core.specs.Phases.{is_masters, own_word, is_finished, is_marked, is_in_session, KeepsOldNumber, holds, counts}
-use Rattle.deck_core.specs.Told.{Told, IsTold}
-use Rattle.deck_core.specs.Configuration.{Configuration, put, lead_of}
+use Rattle.mach_base.specs.Masks.{has_bit}
+use Rattle.deck_core.specs.plain.Words.{mask_of, holder_of}
+use Rattle.deck_core.specs.ticks.Phases.{is_masters, own_word, is_finished, is_marked, is_in_session, KeepsOldNumber, holds, counts}
+use Rattle.deck_core.specs.contract.Told.{Told, IsTold}
+use Rattle.deck_core.specs.ticks.Configuration.{Configuration, put, lead_of}
 use Rattle.deck_core.specs.Invariant.{Sound, TurnAt, HartFits, MarkFits, LeadFits}
-use Rattle.deck_core.specs.declared.phase.Phase.{Phase}
-use Rattle.deck_core.specs.declared.phase.Phase.TheVariants as phase
-use Rattle.deck_core.specs.declared.phase.Place.{Place}
-use Rattle.deck_core.specs.declared.phase.Place.TheVariants as place
-use Rattle.deck_core.proofs.Masks.{mask_of-small, holder_of-small, has-zero, pow_32}
+use Rattle.deck_core.specs.declared.plain.phase.Phase.{Phase}
+use Rattle.deck_core.specs.declared.plain.phase.Phase.TheVariants as phase
+use Rattle.deck_core.specs.declared.plain.phase.Place.{Place}
+use Rattle.deck_core.specs.declared.plain.phase.Place.TheVariants as place
+use Rattle.deck_core.proofs.TurnWords.{mask_of-small, holder_of-small}
+use Rattle.mach_base.proofs.Bits.{has_bit-zero, pow_32}
 
 pub put_same : {A : Type 0} (f : ℕ → A) (h : ℕ) (v : A) → put f h v h ≡ v
 unfolding put
@@ -155,10 +157,10 @@ pub counts_needs_master : (harts master : ℕ) (phases : ℕ → Phase) (k : ℕ
 counts_needs_master harts zero phases k h = absurd (both_ways false refl h)
 counts_needs_master harts (suc m) phases k h = λ e. omega (arith, e)
 
-pub mask_needs_master : (c : Configuration) (k : ℕ) → Sound c → has c.told.mask k ≡ true → c.master ≡ 0 → ⊥
+pub mask_needs_master : (c : Configuration) (k : ℕ) → Sound c → has_bit c.told.mask k ≡ true → c.master ≡ 0 → ⊥
 mask_needs_master c k s h e =
     let empty : c.told.mask ≡ 0 = s.lead.mask (ap (λ m. is_in_session (lead_of m c.phase)) e) in
-    both_ways (has c.told.mask k) (ap (λ m. has m k) empty ∙ has-zero k) h
+    both_ways (has_bit c.told.mask k) (ap (λ m. has_bit m k) empty ∙ has_bit-zero k) h
 
 -- a hart that isn't the master goes from its phase to another one that is no master's; its mark stays where there is a
 -- master
@@ -197,7 +199,7 @@ other_step c h p turn own places b s o fits mask turns same_harts same_mask over
         masked = λ e.
             let marked : is_marked c.gate (c.phase h) ≡ true = or_second (c.master == suc h) (is_marked c.gate (c.phase h)) no ((marks h).masked e) in
             or_right (c.master == suc h) (is_marked c.gate p)
-            (o.mark_stays (mask_needs_master c h s (subst (λ n. has n h ≡ true) same_mask e)) marked);
+            (o.mark_stays (mask_needs_master c h s (subst (λ n. has_bit n h ≡ true) same_mask e)) marked);
       };
       marks = λ k ne. marks k;
       lead_fits = lead;

@@ -1,35 +1,36 @@
 -- The gathering: a look at the next hart's word, and the end of a round.
 use Rattle.std.proofs.Common.{◌≡◌, ℕ, suc, zero, ◌+◌, ◌-◌, ◌*◌, ◌^◌, ◌<◌, ◌≤◌, ◌==◌, ◌&&◌, ◌||◌, Bool, true, false, not, nat_lt, refl, sym, ◌∙◌, ap, subst, inl, inr, arith, if◌then◌else◌, Option, Some, None}
 use Rattle.std.proofs.lemmas.Bool.{cases_eq, cases_Bool, ne_eqb, eqb-true, ltb-true, both_ways, and_parts, and_from, or_cases, not-true, not-false, cond-true, cond-false}
-use Rattle.deck_core.specs.Words.{has, mask_with, all_but, least_outside}
-use Rattle.deck_core.specs.Phases.{is_masters, own_word, is_shut, is_in_session, has_read, is_at_gate, is_marked, KeepsOldNumber, counts, called}
-use Rattle.deck_core.specs.Told.{Told}
-use Rattle.deck_core.specs.Configuration.{Configuration}
-use Rattle.deck_core.specs.Tick.{entering, gathered_after, looks_on, round_over, after_look, mark_counts, enters}
+use Rattle.mach_base.specs.Masks.{has_bit, mask_with, all_but, least_outside}
+use Rattle.deck_core.specs.ticks.Phases.{is_masters, own_word, is_shut, is_in_session, has_read, is_at_gate, is_marked, KeepsOldNumber, counts, called}
+use Rattle.deck_core.specs.contract.Told.{Told}
+use Rattle.deck_core.specs.ticks.Configuration.{Configuration}
+use Rattle.deck_core.specs.ticks.NextPhase.{entering, gathered_after, looks_on, round_over, after_look}
+use Rattle.deck_core.specs.ticks.Tick.{mark_counts, enters}
 use Rattle.deck_core.specs.Invariant.{Sound, LeadFits, KeepsInRange, PlantedFits, StepFits, bit, openings}
-use Rattle.deck_core.specs.declared.phase.Phase.{Phase}
-use Rattle.deck_core.specs.declared.phase.Phase.TheVariants as phase
-use Rattle.deck_core.specs.declared.phase.Looks.{Looks}
-use Rattle.deck_core.specs.Laws.{GatherKeeps}
-use Rattle.deck_core.proofs.Masks.{has-with_same, has-with_other, has-all_but_inside, with-lt}
+use Rattle.deck_core.specs.declared.plain.phase.Phase.{Phase}
+use Rattle.deck_core.specs.declared.plain.phase.Phase.TheVariants as phase
+use Rattle.deck_core.specs.declared.plain.phase.Looks.{Looks}
+use Rattle.deck_core.specs.laws.Keeps.{GatherKeeps}
+use Rattle.mach_base.proofs.Bits.{has_bit-with_same, has_bit-with_other, has_bit-all_but_inside, mask_with-lt}
 use Rattle.deck_core.proofs.Frame.{stays, Mine, mine, master_moves}
 use Rattle.deck_core.proofs.Transactions.{tick_at}
 use Rattle.deck_core.proofs.Outside.{own_of, no_session}
 use Rattle.deck_core.proofs.Elects.{late_others}
 
 -- what the search finds is in its range, and isn't in the mask
-pub least_outside_finds : (count from mask k : ℕ) → least_outside count from mask ≡ Some k → (k < from + count) × (has mask k ≡ false)
+pub least_outside_finds : (count from mask k : ℕ) → least_outside count from mask ≡ Some k → (k < from + count) × (has_bit mask k ≡ false)
 least_outside_finds zero from mask k e = absurd (cc)
 least_outside_finds (suc count) from mask k e =
     let rest : Option ℕ = least_outside count (from + 1) mask in
-    elim (cases_Bool (has mask from)) [
+    elim (cases_Bool (has_bit mask from)) [
       | inl t ↦
-          let r = least_outside_finds count (from + 1) mask k (sym (cond-true (has mask from) rest (Some from) t) ∙ e) in
+          let r = least_outside_finds count (from + 1) mask k (sym (cond-true (has_bit mask from) rest (Some from) t) ∙ e) in
           (omega (arith, r.0), r.1)
       | inr t ↦
-          let same : Some from ≡ Some k = sym (cond-false (has mask from) rest (Some from) t) ∙ e in
+          let same : Some from ≡ Some k = sym (cond-false (has_bit mask from) rest (Some from) t) ∙ e in
           let eq : from ≡ k = cc in
-          (omega (arith, eq), subst (λ x. has mask x ≡ false) eq t)
+          (omega (arith, eq), subst (λ x. has_bit mask x ≡ false) eq t)
     ]
 
 -- a hart outside a master's phase whose word counts is marked
@@ -49,8 +50,8 @@ word_counts gate _ low n o e = absurd (both_ways true n refl)
 -- what is known of the harts that are gathered after a look
 record Gathered (c : Configuration) (h : ℕ) (gathered : ℕ) : Type 0 where
   small : gathered < 2 ^ c.told.harts
-  others : (k : ℕ) → has gathered k ≡ true → (suc h == suc k) ≡ false
-  marked : (k : ℕ) → has gathered k ≡ true → is_marked c.gate (c.phase k) ≡ true
+  others : (k : ℕ) → has_bit gathered k ≡ true → (suc h == suc k) ≡ false
+  marked : (k : ℕ) → has_bit gathered k ≡ true → is_marked c.gate (c.phase k) ≡ true
 
 gathered_in : (c : Configuration) (h : ℕ) (looks : Looks) → Sound c → c.phase h ≡ phase.Gather looks → (seen : Bool) → mark_counts c looks.next ≡ seen → Gathered c h (gathered_after looks seen)
 gathered_in c h looks s e false t =
@@ -58,7 +59,7 @@ gathered_in c h looks s e false t =
     record {
       small = i.lead.range.gathered;
       others = i.lead.range.others;
-      marked = λ k x. (i.marks k).gathered (and_from (has looks.gathered k) (not (suc h == suc k)) x (ap not (i.lead.range.others k x)));
+      marked = λ k x. (i.marks k).gathered (and_from (has_bit looks.gathered k) (not (suc h == suc k)) x (ap not (i.lead.range.others k x)));
     }
 gathered_in c h looks s e true t =
     let i : Mine c h (phase.Gather looks) = mine c h (phase.Gather looks) s e refl in
@@ -72,17 +73,17 @@ gathered_in c h looks s e true t =
     let before : Gathered c h looks.gathered = record {
       small = i.lead.range.gathered;
       others = i.lead.range.others;
-      marked = λ k x. (i.marks k).gathered (and_from (has looks.gathered k) (not (suc h == suc k)) x (ap not (i.lead.range.others k x)));
+      marked = λ k x. (i.marks k).gathered (and_from (has_bit looks.gathered k) (not (suc h == suc k)) x (ap not (i.lead.range.others k x)));
     } in
     record {
-      small = with-lt c.told.harts looks.gathered looks.next i.lead.range.gathered i.lead.range.next.below;
+      small = mask_with-lt c.told.harts looks.gathered looks.next i.lead.range.gathered i.lead.range.next.below;
       others = λ k x. elim (cases_eq k looks.next) [
         | inl q ↦ subst (λ j. (suc h == suc j) ≡ false) (sym q) other
-        | inr q ↦ before.others k (sym (has-with_other looks.gathered looks.next k q) ∙ x)
+        | inr q ↦ before.others k (sym (has_bit-with_other looks.gathered looks.next k q) ∙ x)
       ];
       marked = λ k x. elim (cases_eq k looks.next) [
         | inl q ↦ subst (λ j. is_marked c.gate (c.phase j) ≡ true) (sym q) here
-        | inr q ↦ before.marked k (sym (has-with_other looks.gathered looks.next k q) ∙ x)
+        | inr q ↦ before.marked k (sym (has_bit-with_other looks.gathered looks.next k q) ∙ x)
       ];
     }
 
@@ -105,7 +106,7 @@ gather_lead limit h gate looks p b f range shut at_gate inside unread all plante
 }
 
 -- the gathering goes on
-gathers_on : (c : Configuration) (h : ℕ) (looks : Looks) (rounds next gathered : ℕ) → Sound c → c.phase h ≡ phase.Gather looks → Gathered c h gathered → rounds < c.limit → next < c.told.harts → has (mask_with gathered h) next ≡ false → Sound (enters h (phase.Gather (record { rounds = rounds; next = next; gathered = gathered })) c)
+gathers_on : (c : Configuration) (h : ℕ) (looks : Looks) (rounds next gathered : ℕ) → Sound c → c.phase h ≡ phase.Gather looks → Gathered c h gathered → rounds < c.limit → next < c.told.harts → has_bit (mask_with gathered h) next ≡ false → Sound (enters h (phase.Gather (record { rounds = rounds; next = next; gathered = gathered })) c)
 gathers_on c h looks rounds next gathered s e g less below out =
     let i : Mine c h (phase.Gather looks) = mine c h (phase.Gather looks) s e refl in
     let p : Phase = phase.Gather (record { rounds = rounds; next = next; gathered = gathered }) in
@@ -115,7 +116,7 @@ gathers_on c h looks rounds next gathered s e g less below out =
       own_moves = stays c.own h 1 (own_of c h (phase.Gather looks) s e);
       gate_grows = omega arith;
       marks = λ k ne. record {
-        gathered = λ x. g.marked k ((and_parts (has gathered k) (not (suc h == suc k)) x).0);
+        gathered = λ x. g.marked k ((and_parts (has_bit gathered k) (not (suc h == suc k)) x).0);
         masked = (i.marks k).masked;
       };
       lead_fits = gather_lead c.limit h c.gate looks p c.told i.lead
@@ -124,7 +125,7 @@ gathers_on c h looks rounds next gathered s e g less below out =
               below = below;
               other = ne_eqb (suc h) (suc next) (λ x.
                   let same : next ≡ h = omega (arith, x) in
-                  both_ways (has (mask_with gathered h) next) out (ap (has (mask_with gathered h)) same ∙ has-with_same gathered h));
+                  both_ways (has_bit (mask_with gathered h) next) out (ap (has_bit (mask_with gathered h)) same ∙ has_bit-with_same gathered h));
             };
             rounds = less;
             gathered = g.small;
@@ -145,11 +146,11 @@ gathers_no_more c h looks gathered s e g =
       gate_grows = omega arith;
       marks = λ k ne. record {
         gathered = λ x.
-            let p = and_parts (nat_lt k c.told.harts) (not (has late k)) ((and_parts (counts c.told.harts (entering c.told.harts h gathered) k) (not (suc h == suc k)) x).0) in
-            let in_time : has late k ≡ false = not-true (has late k) p.1 in
-            let was : has (mask_with gathered h) k ≡ true =
-            not-false (has (mask_with gathered h) k) (sym (has-all_but_inside c.told.harts (mask_with gathered h) k (ltb-true k c.told.harts p.0)) ∙ in_time) in
-            g.marked k (sym (has-with_other gathered h k ne) ∙ was);
+            let p = and_parts (nat_lt k c.told.harts) (not (has_bit late k)) ((and_parts (counts c.told.harts (entering c.told.harts h gathered) k) (not (suc h == suc k)) x).0) in
+            let in_time : has_bit late k ≡ false = not-true (has_bit late k) p.1 in
+            let was : has_bit (mask_with gathered h) k ≡ true =
+            not-false (has_bit (mask_with gathered h) k) (sym (has_bit-all_but_inside c.told.harts (mask_with gathered h) k (ltb-true k c.told.harts p.0)) ∙ in_time) in
+            g.marked k (sym (has_bit-with_other gathered h k ne) ∙ was);
         masked = (i.marks k).masked;
       };
       lead_fits = gather_lead c.limit h c.gate looks (entering c.told.harts h gathered) c.told i.lead

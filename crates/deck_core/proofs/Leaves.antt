@@ -1,16 +1,16 @@
 -- The end of a session: it closes, the gate opens, and the master goes.
 use Rattle.std.proofs.Common.{◌≡◌, ℕ, suc, ◌+◌, ◌-◌, ◌*◌, ◌%◌, ◌<◌, ◌≤◌, ◌&&◌, Bool, true, false, refl, sym, ◌∙◌, ap, subst, inl, inr, arith, Option, None}
 use Rattle.std.proofs.lemmas.Bool.{cases_Bool, ne_eqb, both_ways}
-use Rattle.deck_core.specs.Phases.{holds}
-use Rattle.deck_core.specs.Told.{Told, IsTold}
-use Rattle.deck_core.specs.Configuration.{Configuration, put}
-use Rattle.deck_core.specs.Tick.{gives}
+use Rattle.deck_core.specs.ticks.Phases.{holds}
+use Rattle.deck_core.specs.contract.Told.{Told, IsTold}
+use Rattle.deck_core.specs.ticks.Configuration.{Configuration, put}
+use Rattle.deck_core.specs.ticks.Tick.{gives}
 use Rattle.deck_core.specs.Invariant.{Sound, LeadFits, session_fits, bit, openings}
-use Rattle.deck_core.specs.declared.notes.Sitting.{Sitting}
-use Rattle.deck_core.specs.declared.phase.Phase.TheVariants as phase
-use Rattle.deck_core.specs.declared.phase.Kept.{Kept}
-use Rattle.deck_core.specs.Contract.{CloseGives}
-use Rattle.deck_core.specs.Laws.{CloseKeeps, OpenGateKeeps, DropKeeps, FreeKeeps}
+use Rattle.deck_core.specs.declared.plain.notes.Sitting.{Sitting}
+use Rattle.deck_core.specs.declared.plain.phase.Phase.TheVariants as phase
+use Rattle.deck_core.specs.declared.plain.phase.Kept.{Kept}
+use Rattle.deck_core.specs.contract.Calls.{CloseGives}
+use Rattle.deck_core.specs.laws.Keeps.{CloseKeeps, OpenGateKeeps, DropKeeps, FreeKeeps}
 use Rattle.deck_core.proofs.Frame.{stays, put_moves, Mine, mine, master_moves, master_gives, moved}
 use Rattle.deck_core.proofs.Transactions.{tick_at, call_keeps}
 use Rattle.deck_core.proofs.Outside.{own_of, no_session}

@@ -1,11 +1,12 @@
 -- The opening configuration is sound.
 use Rattle.std.proofs.Common.{suc, false, refl, sym, ◌∙◌, ap, arith}
 use Rattle.std.proofs.lemmas.Bool.{ne_eqb, both_ways}
-use Rattle.deck_core.specs.Words.{has}
+use Rattle.mach_base.specs.Masks.{has_bit}
 use Rattle.deck_core.specs.Invariant.{session_fits}
-use Rattle.deck_core.specs.Laws.{OpeningIsSound}
-use Rattle.deck_core.specs.declared.phase.Phase.TheVariants as phase
-use Rattle.deck_core.proofs.Masks.{has-zero, mask_of-small, holder_of-small}
+use Rattle.deck_core.specs.laws.Facts.{OpeningIsSound}
+use Rattle.deck_core.specs.declared.plain.phase.Phase.TheVariants as phase
+use Rattle.mach_base.proofs.Bits.{has_bit-zero}
+use Rattle.deck_core.proofs.TurnWords.{mask_of-small, holder_of-small}
 
 pub opening_is_sound : OpeningIsSound
 opening_is_sound limit b l o = record {
@@ -22,7 +23,7 @@ opening_is_sound limit b l o = record {
   };
   marks = λ k. record {
     gathered = λ e. absurd (both_ways false refl e);
-    masked = λ e. absurd (both_ways (has b.mask k) (ap (λ m. has m k) o.mask ∙ has-zero k) e);
+    masked = λ e. absurd (both_ways (has_bit b.mask k) (ap (λ m. has_bit m k) o.mask ∙ has_bit-zero k) e);
   };
   lead = record {
     range = tt;

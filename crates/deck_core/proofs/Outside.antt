@@ -1,17 +1,17 @@
 -- The phases outside a master's, but Run, and the way to become the master.
 use Rattle.std.proofs.Common.{◌≡◌, ℕ, suc, ◌%◌, ◌<◌, ◌==◌, ◌&&◌, Bool, true, false, not, refl, sym, ◌∙◌, ap, subst, arith, if◌then◌else◌, Option, Some, None}
 use Rattle.std.proofs.lemmas.Bool.{eq-eqb, ne_eqb, eqb-true, eqb-false, both_ways, and_parts}
-use Rattle.deck_core.specs.Words.{has}
-use Rattle.deck_core.specs.Phases.{is_masters, own_word, is_in_session, late_of, is_marked, KeepsOldNumber, WasShut}
-use Rattle.deck_core.specs.Configuration.{Configuration, put, lead_of}
-use Rattle.deck_core.specs.Tick.{enters}
+use Rattle.mach_base.specs.Masks.{has_bit}
+use Rattle.deck_core.specs.ticks.Phases.{is_masters, own_word, is_in_session, late_of, is_marked, KeepsOldNumber, WasShut}
+use Rattle.deck_core.specs.ticks.Configuration.{Configuration, put, lead_of}
+use Rattle.deck_core.specs.ticks.Tick.{enters}
 use Rattle.deck_core.specs.Invariant.{Sound, LeadFits, session_fits, stage_fits}
-use Rattle.deck_core.specs.Laws.{CalledKeeps, MarkKeeps, ParkedKeeps, UnmarkKeeps, WishKeeps, WantKeeps, FinishedKeeps}
-use Rattle.deck_core.specs.declared.notes.Sitting.{Sitting}
-use Rattle.deck_core.specs.declared.notes.Stage.{Stage}
-use Rattle.deck_core.specs.declared.phase.Phase.{Phase}
-use Rattle.deck_core.specs.declared.phase.Phase.TheVariants as phase
-use Rattle.deck_core.proofs.Masks.{has-zero}
+use Rattle.deck_core.specs.laws.Keeps.{CalledKeeps, MarkKeeps, ParkedKeeps, UnmarkKeeps, WishKeeps, WantKeeps, FinishedKeeps}
+use Rattle.deck_core.specs.declared.plain.notes.Sitting.{Sitting}
+use Rattle.deck_core.specs.declared.plain.notes.Stage.{Stage}
+use Rattle.deck_core.specs.declared.plain.phase.Phase.{Phase}
+use Rattle.deck_core.specs.declared.plain.phase.Phase.TheVariants as phase
+use Rattle.mach_base.proofs.Bits.{has_bit-zero}
 use Rattle.deck_core.proofs.Frame.{stays, put_moves, put_same, other_moves, moved}
 use Rattle.deck_core.proofs.Transactions.{tick_at}
 
@@ -106,8 +106,8 @@ finished_keeps c h a after s lt e honest = tick_at c h phase.Finished a after e 
 pub no_session : (m m2 : ℕ) (lead lead2 : Phase) (faults : ℕ) (session : Option Sitting) → ((f : Bool) (at : Stage) → stage_fits f lead at ≡ false) → is_in_session lead2 ≡ false → session_fits m lead faults session ≡ true → session_fits m2 lead2 faults session ≡ true
 no_session m m2 lead lead2 faults None none out f = ap not out
 no_session m m2 lead lead2 faults (Some sitting) none out f =
-    absurd (both_ways (stage_fits (has faults sitting.master.0) lead sitting.stage) (none (has faults sitting.master.0) sitting.stage)
-    (and_parts ((m == suc sitting.master.0) && (sitting.late == late_of lead)) (stage_fits (has faults sitting.master.0) lead sitting.stage) f).1)
+    absurd (both_ways (stage_fits (has_bit faults sitting.master.0) lead sitting.stage) (none (has_bit faults sitting.master.0) sitting.stage)
+    (and_parts ((m == suc sitting.master.0) && (sitting.late == late_of lead)) (stage_fits (has_bit faults sitting.master.0) lead sitting.stage) f).1)
 
 pub elected : (c : Configuration) (h : ℕ) → Sound c → h < c.told.harts → c.phase h ≡ phase.Want → c.master ≡ 0 → Sound (record c { master = suc h; phase = put c.phase h phase.Own })
 elected c h s lt e free =
@@ -132,11 +132,11 @@ elected c h s lt e free =
       leads = put_same c.phase h phase.Own;
       mark = record {
         gathered = λ g. absurd (both_ways false refl g);
-        masked = λ g. absurd (both_ways (has c.told.mask h) (ap (λ m. has m h) (lead.mask refl) ∙ has-zero h) g);
+        masked = λ g. absurd (both_ways (has_bit c.told.mask h) (ap (λ m. has_bit m h) (lead.mask refl) ∙ has_bit-zero h) g);
       };
       marks = λ k ne. record {
         gathered = λ g. absurd (both_ways false refl g);
-        masked = λ g. absurd (both_ways (has c.told.mask k) (ap (λ m. has m k) (lead.mask refl) ∙ has-zero k) g);
+        masked = λ g. absurd (both_ways (has_bit c.told.mask k) (ap (λ m. has_bit m k) (lead.mask refl) ∙ has_bit-zero k) g);
       };
       lead_fits = record {
         range = tt;

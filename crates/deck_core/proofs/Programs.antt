@@ -1,24 +1,33 @@
 -- What a phase keeps stays in range over each tick, whatever the bus answers.
 use Rattle.std.proofs.Common.{◌≡◌, ℕ, ◌+◌, ◌-◌, ◌%◌, ◌<◌, ◌==◌, Bool, true, false, nat_lt, refl, sym, ◌∙◌, subst, inl, inr, arith, if◌then◌else◌, Option, Some, None}
+use Rattle.std.proofs.Props.{props}
 use Rattle.std.proofs.lemmas.Bool.{cases_Bool, eqb-false, ltb-true}
-use Rattle.deck_core.specs.Words.{mask_with, mask_without, least, least_outside}
-use Rattle.deck_core.specs.Tick.{GoesOn, after_look, after_step, after_check, after_enter, after_line, after_pull_step, after_pass, then_of, passing, entering, first_look, skipping, looks_on, round_over, gathered_after, step_answer, check_answer, enter_answer, line_answer, pass_answer}
-use Rattle.deck_core.specs.Laws.{AnswersGoOn, LooksGoOn, ShutGoesOn, GateGoesOn, CanGoOnNow}
-use Rattle.deck_core.specs.declared.phase.Phase.{Phase}
-use Rattle.deck_core.specs.declared.phase.Phase.TheVariants as phase
-use Rattle.deck_core.specs.declared.phase.Kept.{Kept}
-use Rattle.deck_core.specs.declared.phase.Looks.{Looks}
-use Rattle.deck_core.specs.declared.phase.Then.{Then}
-use Rattle.deck_core.specs.declared.phase.Then.TheVariants as follow
-use Rattle.deck_core.specs.declared.act.Turned.{Turned}
-use Rattle.deck_core.specs.declared.act.Turned.TheVariants as turned
-use Rattle.deck_core.specs.declared.act.Entered.{Entered}
-use Rattle.deck_core.specs.declared.act.Entered.TheVariants as entered
-use Rattle.deck_core.specs.declared.act.Lined.{Lined}
-use Rattle.deck_core.specs.declared.act.Lined.TheVariants as lined
-use Rattle.deck_core.specs.declared.act.Passed.{Passed}
+use Rattle.mach_base.specs.Masks.{mask_with, mask_without, least, least_outside}
+use Rattle.deck_core.specs.ticks.NextPhase.{GoesOn, after_look, after_step, after_check, after_enter, after_line, after_pull_step, after_pass, then_of, passing, entering, first_look, skipping, looks_on, round_over, gathered_after, step_answer, check_answer, enter_answer, line_answer, pass_answer}
+use Rattle.deck_core.specs.laws.Ranges.{AnswersGoOn, LooksGoOn, ShutGoesOn, GateGoesOn, CanGoOnNow}
+use Rattle.deck_core.specs.declared.plain.phase.Phase.{Phase}
+use Rattle.deck_core.specs.declared.plain.phase.Phase.TheVariants as phase
+use Rattle.deck_core.specs.declared.plain.phase.Kept.{Kept}
+use Rattle.deck_core.specs.declared.plain.phase.Looks.{Looks}
+use Rattle.deck_core.specs.declared.plain.phase.Then.{Then}
+use Rattle.deck_core.specs.declared.plain.phase.Then.TheVariants as follow
+use Rattle.deck_core.specs.declared.plain.act.Turned.{Turned}
+use Rattle.deck_core.specs.declared.plain.act.Turned.TheVariants as turned
+use Rattle.deck_core.specs.declared.plain.act.Entered.{Entered}
+use Rattle.deck_core.specs.declared.plain.act.Entered.TheVariants as entered
+use Rattle.deck_core.specs.declared.plain.act.Lined.{Lined}
+use Rattle.deck_core.specs.declared.plain.act.Lined.TheVariants as lined
+use Rattle.deck_core.specs.declared.plain.act.Passed.{Passed}
 use Rattle.deck_core.proofs.Elects.{skipping_is}
 use Rattle.deck_core.proofs.Gathers.{least_outside_finds}
+
+-- what is kept in range is a fact
+pub goes_on_prop : (limit harts h : ℕ) (p : Phase) → IsProp (GoesOn limit harts h p)
+goes_on_prop limit harts h (phase.Send to) = hlevel props
+goes_on_prop limit harts h (phase.Gather looks) = hlevel props
+goes_on_prop limit harts h (phase.Pull kept left) = hlevel props
+goes_on_prop limit harts h (phase.Plant kept left) = hlevel props
+goes_on_prop limit harts h _ = hlevel props
 
 module _ (limit harts h : ℕ) where
   step_goes_on : (r : Turned) → GoesOn limit harts h (after_step r)

@@ -3,15 +3,15 @@ use Rattle.std.proofs.Common.{◌≡◌, ℕ, ◌<◌, ◌≤◌, List, length, 
 use Rattle.std.proofs.Math.Path.{fun_ext}
 use Rattle.std.proofs.lemmas.Bool.{cases_eq, cases_lt}
 use Rattle.std.proofs.lemmas.List.{get_or-set_same, get_or-set_other, get_or-replicate, get_or_past, length-replicate}
-use Rattle.deck_core.specs.Told.{Told}
-use Rattle.deck_core.specs.Configuration.{put, opening}
-use Rattle.deck_core.specs.Seats.{configuration_of}
-use Rattle.deck_core.specs.Tick.{enters, writes, goes, gives}
-use Rattle.deck_core.specs.declared.phase.Phase.{Phase}
-use Rattle.deck_core.specs.declared.phase.Phase.TheVariants.{Run}
-use Rattle.deck_core.specs.declared.phase.Place.{Place}
-use Rattle.deck_core.specs.declared.phase.Place.TheVariants.{Peek}
-use Rattle.deck_core.specs.declared.seats.Seats.{Seats}
+use Rattle.deck_core.specs.contract.Told.{Told}
+use Rattle.deck_core.specs.ticks.Configuration.{put, opening}
+use Rattle.deck_core.specs.decks.Seats.{configuration_of}
+use Rattle.deck_core.specs.ticks.Tick.{enters, writes, goes, gives}
+use Rattle.deck_core.specs.declared.plain.phase.Phase.{Phase}
+use Rattle.deck_core.specs.declared.plain.phase.Phase.TheVariants.{Run}
+use Rattle.deck_core.specs.declared.plain.phase.Place.{Place}
+use Rattle.deck_core.specs.declared.plain.phase.Place.TheVariants.{Peek}
+use Rattle.deck_core.specs.declared.decks.seats.Seats.{Seats}
 use Rattle.deck_core.proofs.Frame.{put_same, put_other}
 
 -- a list read with a default

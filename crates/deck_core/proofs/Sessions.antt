@@ -1,56 +1,58 @@
 -- An open session: words are pulled, lines are run, and a single-step pass.
 use Rattle.std.proofs.Common.{◌≡◌, ℕ, suc, ◌+◌, ◌^◌, ◌<◌, ◌≤◌, ◌==◌, ◌&&◌, Bool, true, false, not, refl, sym, ◌∙◌, ap, subst, inl, inr, arith, if◌then◌else◌, Option, Some, None, is_some}
 use Rattle.std.proofs.lemmas.Bool.{cases_eq, cases_Bool, eqb-true, eqb-false, both_ways, and_parts, and_from}
-use Rattle.deck_core.specs.Words.{has, mask_with, mask_without, least}
-use Rattle.deck_core.specs.Phases.{is_in_session, late_of, holds}
-use Rattle.deck_core.specs.Told.{Told, IsTold}
-use Rattle.deck_core.specs.Configuration.{Configuration}
-use Rattle.deck_core.specs.Contract.{Changes, in_stage, is_pass, is_leaving, comes_back}
-use Rattle.deck_core.specs.Tick.{gives, pulling, planting, line_answer, pass_answer, after_line, passing, after_pass, after_pull_step}
+use Rattle.mach_base.specs.Masks.{has_bit, mask_with, mask_without, least}
+use Rattle.deck_core.specs.ticks.Phases.{is_in_session, late_of, holds}
+use Rattle.deck_core.specs.contract.Told.{Told, IsTold}
+use Rattle.deck_core.specs.ticks.Configuration.{Configuration}
+use Rattle.deck_core.specs.contract.Calls.{Changes, in_stage}
+use Rattle.deck_core.specs.contract.Allowed.{is_pass, is_leaving, comes_back}
+use Rattle.deck_core.specs.ticks.Tick.{gives}
+use Rattle.deck_core.specs.ticks.NextPhase.{pulling, planting, line_answer, pass_answer, after_line, passing, after_pass, after_pull_step}
 use Rattle.deck_core.specs.Invariant.{Sound, Working, KeepsInRange, LateFits, LeftFits, ThenFits, IsPlanting, StepFits, session_fits, stage_fits, bit, openings}
-use Rattle.deck_core.specs.declared.notes.Sitting.{Sitting}
-use Rattle.deck_core.specs.declared.notes.Stage.{Stage}
-use Rattle.deck_core.specs.declared.notes.Stage.TheVariants as stage
-use Rattle.deck_core.specs.declared.phase.Phase.{Phase}
-use Rattle.deck_core.specs.declared.phase.Phase.TheVariants as phase
-use Rattle.deck_core.specs.declared.phase.Kept.{Kept}
-use Rattle.deck_core.specs.declared.phase.Then.{Then}
-use Rattle.deck_core.specs.declared.phase.Then.TheVariants as follow
-use Rattle.deck_core.specs.Contract.{PassGives, PassLeaves, LineGives, LineLeaves, IsStepAddress, Lost, line_read, executed, pulled, replanted, step_planted, step_pulled}
-use Rattle.deck_core.specs.Laws.{PullKeeps, LinesKeeps, PlantStepKeeps, PassStepKeeps, PullStepKeeps, PlantKeeps}
-use Rattle.deck_core.specs.declared.act.Lined.{Lined}
-use Rattle.deck_core.specs.declared.act.Lined.TheVariants as lined
-use Rattle.deck_core.specs.declared.act.Passed.{Passed}
-use Rattle.deck_core.specs.declared.act.Passed.TheVariants as passed
-use Rattle.deck_core.proofs.Masks.{has-zero, has-least, has-below, has-with_same, has-with_other, has-without_same, has-without_other, without-lt, same_mask}
+use Rattle.deck_core.specs.declared.plain.notes.Sitting.{Sitting}
+use Rattle.deck_core.specs.declared.plain.notes.Stage.{Stage}
+use Rattle.deck_core.specs.declared.plain.notes.Stage.TheVariants as stage
+use Rattle.deck_core.specs.declared.plain.phase.Phase.{Phase}
+use Rattle.deck_core.specs.declared.plain.phase.Phase.TheVariants as phase
+use Rattle.deck_core.specs.declared.plain.phase.Kept.{Kept}
+use Rattle.deck_core.specs.declared.plain.phase.Then.{Then}
+use Rattle.deck_core.specs.declared.plain.phase.Then.TheVariants as follow
+use Rattle.deck_core.specs.contract.Calls.{PassGives, PassLeaves, LineGives, LineLeaves, IsStepAddress, Lost, line_read, executed, pulled, replanted, step_planted, step_pulled}
+use Rattle.deck_core.specs.laws.Keeps.{PullKeeps, LinesKeeps, PlantStepKeeps, PassStepKeeps, PullStepKeeps, PlantKeeps}
+use Rattle.deck_core.specs.declared.plain.act.Lined.{Lined}
+use Rattle.deck_core.specs.declared.plain.act.Lined.TheVariants as lined
+use Rattle.deck_core.specs.declared.plain.act.Passed.{Passed}
+use Rattle.deck_core.specs.declared.plain.act.Passed.TheVariants as passed
+use Rattle.mach_base.proofs.Bits.{has_bit-zero, has_bit-least, has_bit-below, has_bit-with_same, has_bit-with_other, has_bit-without_same, has_bit-without_other, mask_without-lt, same_mask}
 use Rattle.deck_core.proofs.Frame.{Mine, mine}
 use Rattle.deck_core.proofs.Transactions.{tick_at, call_keeps}
 use Rattle.deck_core.proofs.Enters.{Within, Inside, inside_gives, ended_gives, ended, mask_marked, pull_inside, lines_inside, plant_step_inside, pass_step_inside, pull_step_inside, plant_inside, close_inside, enter_inside, pulling_inside, pulling_session, pulling_range}
 
 -- the least place that is left is one of the sixteen
 pub least_below : (left : ℕ) → LeftFits left → least left < 16
-least_below left f = has-below left 16 (least left) f.places (has-least left f.some f.places)
+least_below left f = has_bit-below left 16 (least left) f.places (has_bit-least left f.some f.places)
 
 pub rest_below : (left : ℕ) → LeftFits left → mask_without left (least left) < 2 ^ 16
-rest_below left f = without-lt 16 left (least left) f.places (least_below left f)
+rest_below left f = mask_without-lt 16 left (least left) f.places (least_below left f)
 
 -- the session of a phase fits another phase, where it may have its stage
 pub session_goes : (m : ℕ) (lead lead2 : Phase) (faults : ℕ) (session : Option Sitting) → is_in_session lead ≡ true → late_of lead2 ≡ late_of lead → ((f : Bool) (at : Stage) → stage_fits f lead at ≡ true → stage_fits f lead2 at ≡ true) → session_fits m lead faults session ≡ true → session_fits m lead2 faults session ≡ true
 session_goes m lead lead2 faults None inside late fits f = absurd (both_ways (not (is_in_session lead)) (ap not inside) f)
 session_goes m lead lead2 faults (Some sitting) inside late fits f =
-    let p = and_parts ((m == suc sitting.master.0) && (sitting.late == late_of lead)) (stage_fits (has faults sitting.master.0) lead sitting.stage) f in
-    and_from ((m == suc sitting.master.0) && (sitting.late == late_of lead2)) (stage_fits (has faults sitting.master.0) lead2 sitting.stage)
+    let p = and_parts ((m == suc sitting.master.0) && (sitting.late == late_of lead)) (stage_fits (has_bit faults sitting.master.0) lead sitting.stage) f in
+    and_from ((m == suc sitting.master.0) && (sitting.late == late_of lead2)) (stage_fits (has_bit faults sitting.master.0) lead2 sitting.stage)
     (ap (λ x. (m == suc sitting.master.0) && (sitting.late == x)) late ∙ p.0)
-    (fits (has faults sitting.master.0) sitting.stage p.1)
+    (fits (has_bit faults sitting.master.0) sitting.stage p.1)
 
 -- the session in another stage fits another phase
 pub session_in : (m : ℕ) (lead lead2 : Phase) (faults faults2 : ℕ) (session : Option Sitting) (to : Stage) → is_in_session lead ≡ true → late_of lead2 ≡ late_of lead → ((f : Bool) → stage_fits f lead2 to ≡ true) → session_fits m lead faults session ≡ true → session_fits m lead2 faults2 (in_stage to session) ≡ true
 session_in m lead lead2 faults faults2 None to inside late fits f = absurd (both_ways (not (is_in_session lead)) (ap not inside) f)
 session_in m lead lead2 faults faults2 (Some sitting) to inside late fits f =
-    let p = and_parts ((m == suc sitting.master.0) && (sitting.late == late_of lead)) (stage_fits (has faults sitting.master.0) lead sitting.stage) f in
-    and_from ((m == suc sitting.master.0) && (sitting.late == late_of lead2)) (stage_fits (has faults2 sitting.master.0) lead2 to)
+    let p = and_parts ((m == suc sitting.master.0) && (sitting.late == late_of lead)) (stage_fits (has_bit faults sitting.master.0) lead sitting.stage) f in
+    and_from ((m == suc sitting.master.0) && (sitting.late == late_of lead2)) (stage_fits (has_bit faults2 sitting.master.0) lead2 to)
     (ap (λ x. (m == suc sitting.master.0) && (sitting.late == x)) late ∙ p.0)
-    (fits (has faults2 sitting.master.0))
+    (fits (has_bit faults2 sitting.master.0))
 
 -- ---- Pull
 
@@ -120,8 +122,8 @@ planting_from_none m gate kept planted enabled b none same step read session tru
 planting_from_none m gate kept planted enabled b none same step read session false z = record {
   session = session (phase.Plant kept enabled) refl (λ f. refl) (λ f at x. x);
   planted = record {
-    wanted = λ k x. ap (λ e. has e k) (sym same) ∙ x;
-    others = λ k. (ap (λ p. has p k) none ∙ has-zero k) ∙ sym (ap (λ e. has e k && not (has enabled k)) (sym same) ∙ and_not_self (has enabled k));
+    wanted = λ k x. ap (λ e. has_bit e k) (sym same) ∙ x;
+    others = λ k. (ap (λ p. has_bit p k) none ∙ has_bit-zero k) ∙ sym (ap (λ e. has_bit e k && not (has_bit enabled k)) (sym same) ∙ and_not_self (has_bit enabled k));
   };
   step = step;
   read = λ x. read;
@@ -256,14 +258,14 @@ pass_step_some : (step next : Option ℕ) (plantable stepped : Bool) (kept : Kep
 pass_step_some step next plantable stepped kept f = f.stands
 
 -- the session is in the pass, and its instruction faults: it comes back
-faulting_session : (h : ℕ) (lead lead2 : Phase) (faults : ℕ) (session : Option Sitting) → is_in_session lead ≡ true → late_of lead2 ≡ late_of lead → has faults h ≡ true → ((at : Stage) → stage_fits true lead at ≡ true → stage_fits true lead2 at ≡ true) → session_fits (suc h) lead faults session ≡ true → session_fits (suc h) lead2 faults session ≡ true
+faulting_session : (h : ℕ) (lead lead2 : Phase) (faults : ℕ) (session : Option Sitting) → is_in_session lead ≡ true → late_of lead2 ≡ late_of lead → has_bit faults h ≡ true → ((at : Stage) → stage_fits true lead at ≡ true → stage_fits true lead2 at ≡ true) → session_fits (suc h) lead faults session ≡ true → session_fits (suc h) lead2 faults session ≡ true
 faulting_session h lead lead2 faults None inside late faulting fits f = absurd (both_ways (not (is_in_session lead)) (ap not inside) f)
 faulting_session h lead lead2 faults (Some sitting) inside late faulting fits f =
-    let p = and_parts ((suc h == suc sitting.master.0) && (sitting.late == late_of lead)) (stage_fits (has faults sitting.master.0) lead sitting.stage) f in
+    let p = and_parts ((suc h == suc sitting.master.0) && (sitting.late == late_of lead)) (stage_fits (has_bit faults sitting.master.0) lead sitting.stage) f in
     let same : suc h ≡ suc sitting.master.0 = eqb-true (suc h) (suc sitting.master.0) (and_parts (suc h == suc sitting.master.0) (sitting.late == late_of lead) p.0).0 in
     let eq : h ≡ sitting.master.0 = omega (arith, same) in
-    let t : has faults sitting.master.0 ≡ true = ap (has faults) (sym eq) ∙ faulting in
-    and_from ((suc h == suc sitting.master.0) && (sitting.late == late_of lead2)) (stage_fits (has faults sitting.master.0) lead2 sitting.stage)
+    let t : has_bit faults sitting.master.0 ≡ true = ap (has_bit faults) (sym eq) ∙ faulting in
+    and_from ((suc h == suc sitting.master.0) && (sitting.late == late_of lead2)) (stage_fits (has_bit faults sitting.master.0) lead2 sitting.stage)
     (ap (λ x. (suc h == suc sitting.master.0) && (sitting.late == x)) late ∙ p.0)
     (subst (λ b. stage_fits b lead2 sitting.stage ≡ true) (sym t) (fits sitting.stage (subst (λ b. stage_fits b lead sitting.stage ≡ true) t p.1)))
 
@@ -281,7 +283,7 @@ pass_gives c h kept planted p b s e held w fits inside session range harts mask 
     (mask_marked c h (phase.PassStep kept planted) b i mask) (λ o. absurd (both_ways c.told.over w o)) (omega (arith, lines)) sends range
     (λ x. working (i.lead.working w))
 
-pass_faults : (c : Configuration) (h : ℕ) (kept : Kept) (planted : Bool) → Sound c → c.phase h ≡ phase.PassStep kept planted → holds (c.place h) ≡ true → c.told.over ≡ false → has c.told.faults h ≡ true → Sound (gives h (after_pass kept planted passed.Faulted) c.told c)
+pass_faults : (c : Configuration) (h : ℕ) (kept : Kept) (planted : Bool) → Sound c → c.phase h ≡ phase.PassStep kept planted → holds (c.place h) ≡ true → c.told.over ≡ false → has_bit c.told.faults h ≡ true → Sound (gives h (after_pass kept planted passed.Faulted) c.told c)
 pass_faults c h kept true s e held w t =
     let i : Mine c h (phase.PassStep kept true) = mine c h (phase.PassStep kept true) s e refl in
     pass_gives c h kept true (phase.PullStep kept follow.Enter) c.told s e held w s.told (pull_step_inside kept follow.Enter) refl (i.lead.range, tt) refl refl refl refl
@@ -430,16 +432,16 @@ pull_step_keeps kept follows c h a after s lt e honest = tick_at c h (phase.Pull
 planting_on : (planted enabled left : ℕ) → LeftFits left → IsPlanting planted enabled left → IsPlanting (mask_with planted (least left)) enabled (mask_without left (least left))
 planting_on planted enabled left f g =
     let i : ℕ = least left in
-    let was : has left i ≡ true = has-least left f.some f.places in
+    let was : has_bit left i ≡ true = has_bit-least left f.some f.places in
     record {
       wanted = λ k x. elim (cases_eq k i) [
-        | inl q ↦ absurd (both_ways (has (mask_without left i) i) (has-without_same left i was) (subst (λ j. has (mask_without left i) j ≡ true) q x))
-        | inr ne ↦ g.wanted k (sym (has-without_other left i k ne) ∙ x)
+        | inl q ↦ absurd (both_ways (has_bit (mask_without left i) i) (has_bit-without_same left i was) (subst (λ j. has_bit (mask_without left i) j ≡ true) q x))
+        | inr ne ↦ g.wanted k (sym (has_bit-without_other left i k ne) ∙ x)
       ];
       others = λ k. elim (cases_eq k i) [
-        | inl q ↦ subst (λ j. has (mask_with planted i) j ≡ (has enabled j && not (has (mask_without left i) j))) (sym q)
-            (has-with_same planted i ∙ sym (and_from (has enabled i) (not (has (mask_without left i) i)) (g.wanted i was) (ap not (has-without_same left i was))))
-        | inr ne ↦ has-with_other planted i k ne ∙ (g.others k ∙ ap (λ x. has enabled k && not x) (sym (has-without_other left i k ne)))
+        | inl q ↦ subst (λ j. has_bit (mask_with planted i) j ≡ (has_bit enabled j && not (has_bit (mask_without left i) j))) (sym q)
+            (has_bit-with_same planted i ∙ sym (and_from (has_bit enabled i) (not (has_bit (mask_without left i) i)) (g.wanted i was) (ap not (has_bit-without_same left i was))))
+        | inr ne ↦ has_bit-with_other planted i k ne ∙ (g.others k ∙ ap (λ x. has_bit enabled k && not x) (sym (has_bit-without_other left i k ne)))
       ];
     }
 
@@ -454,7 +456,7 @@ plant_working m gate kept left rest b l w r true z =
     record {
       session = session_goes m (phase.Plant kept left) (phase.Close kept) b.faults b.session refl refl (λ f at x. x) w.session;
       planted = same_mask (mask_with b.planted (least left)) b.enabled
-          (λ k. on.others k ∙ (ap (λ x. has b.enabled k && not x) (ap (λ x. has x k) none ∙ has-zero k) ∙ and_true (has b.enabled k)));
+          (λ k. on.others k ∙ (ap (λ x. has_bit b.enabled k && not x) (ap (λ x. has_bit x k) none ∙ has_bit-zero k) ∙ and_true (has_bit b.enabled k)));
       step = w.step;
       read = w.read;
     }

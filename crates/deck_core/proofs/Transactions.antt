@@ -1,19 +1,21 @@
 -- The load of the turn word and its compare and exchange, in any phase; and from a tick in a phase to a tick.
 use Rattle.std.proofs.Common.{◌≡◌, ℕ, suc, ◌==◌, ◌&&◌, Bool, true, false, not, refl, sym, ◌∙◌, ap, subst, inl, inr, arith, if◌then◌else◌}
 use Rattle.std.proofs.lemmas.Bool.{cases_Bool, eq-eqb, ne_eqb, eqb-true, or_parts, not-false}
-use Rattle.deck_core.specs.Words.{has, turn_word, mask_of, holder_of}
-use Rattle.deck_core.specs.Phases.{holds, is_in_session}
-use Rattle.deck_core.specs.Told.{Told}
-use Rattle.deck_core.specs.Configuration.{Configuration, put}
-use Rattle.deck_core.specs.Contract.{HonestCall}
-use Rattle.deck_core.specs.Tick.{tick, tick_in, goes, is_busy, transacts, act_of, makes_call, is_transaction, gives, after_answer}
-use Rattle.deck_core.specs.Laws.{PeekKeeps, TakeKeeps}
+use Rattle.mach_base.specs.Masks.{has_bit}
+use Rattle.deck_core.specs.plain.Words.{turn_word, mask_of, holder_of}
+use Rattle.deck_core.specs.ticks.Phases.{holds, is_in_session}
+use Rattle.deck_core.specs.contract.Told.{Told}
+use Rattle.deck_core.specs.ticks.Configuration.{Configuration, put}
+use Rattle.deck_core.specs.contract.Calls.{HonestCall}
+use Rattle.deck_core.specs.ticks.Tick.{tick, tick_in, goes, is_busy, transacts, makes_call, gives}
+use Rattle.deck_core.specs.ticks.NextPhase.{act_of, is_transaction, after_answer}
+use Rattle.deck_core.specs.laws.Keeps.{PeekKeeps, TakeKeeps}
 use Rattle.deck_core.specs.Invariant.{Sound, TurnAt, SeenFree}
-use Rattle.deck_core.specs.declared.phase.Phase.{Phase}
-use Rattle.deck_core.specs.declared.phase.Place.{Place}
-use Rattle.deck_core.specs.declared.phase.Place.TheVariants as place
-use Rattle.deck_core.specs.declared.act.Answer.{Answer}
-use Rattle.deck_core.proofs.Masks.{mask_of-lt, mask_of-turn_word, holder_of-turn_word}
+use Rattle.deck_core.specs.declared.plain.phase.Phase.{Phase}
+use Rattle.deck_core.specs.declared.plain.phase.Place.{Place}
+use Rattle.deck_core.specs.declared.plain.phase.Place.TheVariants as place
+use Rattle.deck_core.specs.declared.plain.act.Answer.{Answer}
+use Rattle.deck_core.proofs.TurnWords.{mask_of-lt, mask_of-turn_word, holder_of-turn_word}
 use Rattle.deck_core.proofs.Frame.{put_moves, at_each}
 
 -- the turn and the places alone change
@@ -45,7 +47,7 @@ peek_keeps c h p s e =
       | inr t ↦ subst (λ b. Sound (f b)) (sym t)
           (place_moves c h (place.Take c.turn) s (ap holds e) refl
           (eqb-true (holder_of c.turn) 0 (not-false (holder_of c.turn == 0)
-          ((or_parts (not (holder_of c.turn == 0)) (has (mask_of c.turn) h && not (is_in_session p)) t).0))))
+          ((or_parts (not (holder_of c.turn == 0)) (has_bit (mask_of c.turn) h && not (is_in_session p)) t).0))))
     ]
 
 pub take_keeps : TakeKeeps

@@ -20,20 +20,22 @@
 --
 -- Besides, what a phase keeps is in range (`KeepsInRange`), and so is what the bus tells (`IsTold`).
 use Rattle.std.specs.Prelude.{◌≡◌, ℕ, suc, zero, ◌+◌, ◌-◌, ◌*◌, ◌/◌, ◌%◌, ◌^◌, ◌<◌, ◌≤◌, ◌==◌, ◌&&◌, ◌||◌, Bool, true, false, not, Option, Some, None, is_some, if◌then◌else◌}
-use Rattle.deck_core.specs.Words.{has, mask_of, holder_of}
-use Rattle.deck_core.specs.Phases.{is_masters, own_word, is_finished, is_shut, is_before_opening, is_in_session, has_read, is_at_gate, late_of, is_marked, KeepsOldNumber, counts, called, holds}
-use Rattle.deck_core.specs.Told.{Told, IsTold}
-use Rattle.deck_core.specs.Contract.{is_lines, is_pass, is_leaving, comes_back}
-use Rattle.deck_core.specs.Configuration.{Configuration, lead_of}
-use Rattle.deck_core.specs.declared.phase.Phase.{Phase}
-use Rattle.deck_core.specs.declared.phase.Phase.TheVariants as phase
-use Rattle.deck_core.specs.declared.phase.Then.{Then}
-use Rattle.deck_core.specs.declared.phase.Then.TheVariants as follow
-use Rattle.deck_core.specs.declared.phase.Looks.{Looks}
-use Rattle.deck_core.specs.declared.phase.Place.{Place}
-use Rattle.deck_core.specs.declared.phase.Place.TheVariants as place
-use Rattle.deck_core.specs.declared.notes.Sitting.{Sitting}
-use Rattle.deck_core.specs.declared.notes.Stage.{Stage}
+use Rattle.mach_base.specs.Masks.{has_bit}
+use Rattle.mach_base.specs.declared.limits.TheConstants.{PLACES}
+use Rattle.deck_core.specs.plain.Words.{mask_of, holder_of}
+use Rattle.deck_core.specs.ticks.Phases.{is_masters, own_word, is_finished, is_shut, is_before_opening, is_in_session, has_read, is_at_gate, late_of, is_marked, KeepsOldNumber, counts, called, holds}
+use Rattle.deck_core.specs.contract.Told.{Told, IsTold}
+use Rattle.deck_core.specs.contract.Allowed.{is_lines, is_pass, is_leaving, comes_back}
+use Rattle.deck_core.specs.ticks.Configuration.{Configuration, lead_of}
+use Rattle.deck_core.specs.declared.plain.phase.Phase.{Phase}
+use Rattle.deck_core.specs.declared.plain.phase.Phase.TheVariants as phase
+use Rattle.deck_core.specs.declared.plain.phase.Then.{Then}
+use Rattle.deck_core.specs.declared.plain.phase.Then.TheVariants as follow
+use Rattle.deck_core.specs.declared.plain.phase.Looks.{Looks}
+use Rattle.deck_core.specs.declared.plain.phase.Place.{Place}
+use Rattle.deck_core.specs.declared.plain.phase.Place.TheVariants as place
+use Rattle.deck_core.specs.declared.plain.notes.Sitting.{Sitting}
+use Rattle.deck_core.specs.declared.plain.notes.Stage.{Stage}
 
 -- ---- the turn
 
@@ -61,7 +63,7 @@ pub record HartFits (gate : ℕ) (master : ℕ) (over : Bool) (p : Phase) (own :
 -- master or its mark counts
 pub record MarkFits (harts : ℕ) (mask : ℕ) (gate : ℕ) (master : ℕ) (lead : Phase) (p : Phase) (k : ℕ) : Type 0 where
   pub gathered : (counts harts lead k && not (master == suc k)) ≡ true → is_marked gate p ≡ true
-  pub masked : has mask k ≡ true → ((master == suc k) || is_marked gate p) ≡ true
+  pub masked : has_bit mask k ≡ true → ((master == suc k) || is_marked gate p) ≡ true
 
 -- ---- the master, by its phase, its number plus 1 and the gate's number
 
@@ -82,20 +84,20 @@ pub record LooksFit (limit : ℕ) (harts : ℕ) (master : ℕ) (looks : Looks) :
   pub next : IsOther harts master looks.next
   pub rounds : looks.rounds < limit
   pub gathered : looks.gathered < 2 ^ harts
-  pub others : (k : ℕ) → has looks.gathered k ≡ true → (master == suc k) ≡ false
+  pub others : (k : ℕ) → has_bit looks.gathered k ≡ true → (master == suc k) ≡ false
 
 pub record LateFits (harts : ℕ) (master : ℕ) (late : ℕ) : Type 0 where
   pub below : late < 2 ^ harts
-  pub others : (k : ℕ) → has late k ≡ true → (master == suc k) ≡ false
+  pub others : (k : ℕ) → has_bit late k ≡ true → (master == suc k) ≡ false
 
 pub record LeftFits (left : ℕ) : Type 0 where
   pub some : 0 < left
-  pub places : left < 2 ^ 16
+  pub places : left < 2 ^ PLACES
 
 -- what follows the step word's removal is in range
 abbrev pub ThenFits : Then → Type 0
 ThenFits follow.Enter = Unit {0}
-ThenFits (follow.Plant left) = left < 2 ^ 16
+ThenFits (follow.Plant left) = left < 2 ^ PLACES
 
 abbrev pub KeepsInRange : ℕ → ℕ → ℕ → Phase → Type 0
 KeepsInRange limit harts master (phase.Send to) = IsOther harts master to
@@ -127,12 +129,12 @@ stage_fits faulting _ at = false
 abbrev pub session_fits : ℕ → Phase → ℕ → Option Sitting → Bool
 session_fits master lead faults None = not (is_in_session lead)
 session_fits master lead faults (Some sitting) =
-    ((master == suc sitting.master.0) && (sitting.late == late_of lead)) && stage_fits (has faults sitting.master.0) lead sitting.stage
+    ((master == suc sitting.master.0) && (sitting.late == late_of lead)) && stage_fits (has_bit faults sitting.master.0) lead sitting.stage
 
 -- the enabled places are planted but those that are still to be planted
 pub record IsPlanting (planted : ℕ) (enabled : ℕ) (left : ℕ) : Type 0 where
-  pub wanted : (k : ℕ) → has left k ≡ true → has enabled k ≡ true
-  pub others : (k : ℕ) → has planted k ≡ (has enabled k && not (has left k))
+  pub wanted : (k : ℕ) → has_bit left k ≡ true → has_bit enabled k ≡ true
+  pub others : (k : ℕ) → has_bit planted k ≡ (has_bit enabled k && not (has_bit left k))
 
 abbrev pub ThenPlants : ℕ → Then → Type 0
 ThenPlants enabled follow.Enter = Unit {0}
@@ -192,7 +194,7 @@ pub record LeadFits (limit : ℕ) (master : ℕ) (gate : ℕ) (lead : Phase) (b 
   pub low : 2 ≤ gate
   pub parity : gate % 2 ≡ bit (is_shut lead)
   pub mask : is_in_session lead ≡ false → b.mask ≡ 0
-  pub trap : is_before_opening lead ≡ true → (b.over || at_master master (has b.traps)) ≡ true
+  pub trap : is_before_opening lead ≡ true → (b.over || at_master master (has_bit b.traps)) ≡ true
   pub lines : openings gate ≤ b.lines + bit (b.over && not (is_at_gate lead))
   pub sends : b.sends ≤ (b.harts - 1) * openings gate + called b.harts master lead
   pub working : b.over ≡ false → Working master gate lead b

@@ -1,10 +1,6 @@
-pub mod Words
-pub mod Phases
-pub mod Told
-pub mod Configuration
-pub mod Contract
-pub mod Tick
+pub mod plain
+pub mod contract
+pub mod ticks
 pub mod Invariant
-pub mod Laws
-pub mod Seats
-pub mod Seat
+pub mod laws
+pub mod decks

@@ -7,8 +7,8 @@
 //! - A hart's *phase* (`Phase`) is what it does next. The phases from `Own` to `Free` are those of the *master*.
 //! - The *gate* is a number, odd while it is shut. A hart that was called marks itself with the odd number that it saw,
 //!   and waits until the gate has another one. The harts that the master didn't find marked are *late*.
-//! - A *configuration* (specs/Configuration.antt) is the shared words, each hart's phase and place, and what the bus
-//!   tells; a *tick* (specs/Tick.antt) is one hart's next step.
+//! - A *configuration* (specs/ticks/Configuration.antt) is the shared words, each hart's phase and place, and what the bus
+//!   tells; a *tick* (specs/ticks/Tick.antt) is one hart's next step.
 //! - The *invariant* is `Sound` of specs/Invariant.antt.
 //!
 //! What is proved: the opening configuration meets the invariant, and each tick of each hart, in each phase and with every
@@ -21,49 +21,42 @@
 //! It stands on `mach_base`. No crate stands on it yet.
 #![tactic(auto)]
 
-mod act;
-mod bit_masks;
-mod bus;
-mod calls;
-mod deck;
-mod facts;
-mod flat;
-mod flat_deck;
+mod contract;
+mod decks;
 mod laws;
-mod next_phase;
-mod notes;
 mod pause;
-mod phase;
-mod seat_steps;
-mod seats;
-mod words;
+mod plain;
+mod ticks;
 
-pub use act::{Act, Answer, Entered, Lined, Passed, Turned};
-pub use bit_masks::{
-    all_but, least, least_outside, mask_has, mask_with, mask_without, without_least,
+pub use contract::bus::Bus;
+pub use contract::calls::call;
+pub use decks::deck::Deck;
+pub use decks::flat::Flat;
+pub use laws::facts::{
+    call_is_allowed, gate_is_bounded, gone_trap_drops, one_master, opening_is_sound, runs_unmasked,
+    sessions_never_overlap,
 };
-pub use bus::Bus;
-pub use calls::call;
-pub use deck::Deck;
-pub use facts::{
-    answers_go_on, call_is_allowed, can_go_on_now, gate_goes_on, gate_is_bounded, gone_trap_drops,
-    looks_go_on, one_master, opening_is_sound, runs_unmasked, sessions_never_overlap, shut_goes_on,
-};
-pub use flat::Flat;
-pub use laws::{
+pub use laws::keeps::{
     called_keeps, close_keeps, drop_keeps, enter_keeps, every_plan_keeps, every_tick_keeps,
     finished_keeps, free_keeps, gather_keeps, give_keeps, lines_keeps, mark_keeps, open_gate_keeps,
     own_keeps, parked_keeps, pass_step_keeps, peek_keeps, plant_keeps, plant_step_keeps,
     pull_keeps, pull_step_keeps, run_keeps, send_keeps, shut_keeps, take_keeps, unmark_keeps,
     want_keeps, wish_keeps,
 };
-pub use next_phase::{
+pub use laws::ranges::{answers_go_on, can_go_on_now, gate_goes_on, looks_go_on, shut_goes_on};
+pub use laws::runs::{
+    ExactBus, GrowingBus, gone_trap_goes_back, late_were_missed, runs_are_exact, runs_are_ticks,
+    runs_grow,
+};
+pub use pause::{Counted, Pause};
+pub use plain::act::{Act, Answer, Entered, Lined, Passed, Turned};
+pub use plain::note_words::{NOTE_WORDS, notes_are_read_back};
+pub use plain::notes::{Notes, Sitting, Stage};
+pub use plain::phase::{Kept, Looks, Phase, Place, Then};
+pub use plain::words::{SEATS, Words, holder_of, is_busy, is_in_session, mask_of, turn_word};
+pub use ticks::next_phase::{
     act_of, after_answer, after_clear, after_gate, after_look, after_shut, is_transaction,
 };
-pub use notes::{Notes, Sitting, Stage};
-pub use pause::{Counted, Pause};
-pub use phase::{Kept, Looks, Phase, Place, Then};
-pub use words::{Words, holder_of, is_busy, is_in_session, mask_of, turn_word};
 
 #[cfg(test)]
 mod tests;

@@ -38,6 +38,7 @@ x_number (x ∷ t ∷ u ∷ []) =
     if (x == 120) && (nat_le 49 t && (is_decimal t && (is_decimal u && nat_lt (10 * (t - 48) + (u - 48)) 32))) then Some (10 * (t - 48) + (u - 48)) else None
 x_number other = None
 
+-- the register of this number, or else the other one
 abbrev pub register_or : Option ℕ → Option RegName → Option RegName
 register_or (Some n) other = Some (X n)
 register_or None other = other

@@ -5,11 +5,13 @@
 //! - A *reservation* is the granule of 8 bytes, by its number, on which the hart's last load-reserved was made.
 //! - The *ABI name* of a register is the one of the RISC-V calling convention, as `a0` for x10.
 //!
-//! It stands on `mach_base`; the machine's instructions and the debugger's registers stand on it.
+//! It uses `mach_base`; the machine's instructions and the debugger use it.
 #![tactic(auto)]
 
 mod context;
 mod register_name;
+mod reservation;
 
 pub use context::Context;
 pub use register_name::{BadReg, RegName, names_are_read, reg_name, reg_of};
+pub use reservation::{end_reservations, granule_of, is_among};

@@ -7,18 +7,19 @@ use Rattle.mach_base.specs.declared.event.Fault.{Fault}
 use Rattle.mach_base.specs.declared.event.Cause.TheVariants.{BadService}
 use Rattle.hart_ctx.specs.Context.{context_of}
 use Rattle.rv_decode.specs.Fields.{Fields, decoded}
-use Rattle.trap_ipi.specs.Service.{is_known, service_number, argument, served, interrupted, after_known, after_service}
+use Rattle.trap_ipi.specs.Service.{is_known, service_number, argument, caller_after, with_pending, after_known, after_service}
 use Rattle.hart_step.specs.declared.class.Class.{Class}
 use Rattle.hart_step.specs.declared.class.Class.TheVariants.{Upper, UpperPc, Jump, JumpRegister, Branch, Load, Store, Immediate, Registers, Order, Reserve, Conditional, Atomic, Service, Breakpoint}
 use Rattle.hart_step.specs.declared.control.After.TheVariants.{At, Nowhere}
 use Rattle.hart_step.specs.Operands.{class_of}
-use Rattle.hart_step.specs.Control.{target, following, after_target, after_service_call, next_in, next_pc}
+use Rattle.hart_step.specs.Control.{target, following_pc, after_target, after_service_call, next_in, next_pc}
 use Rattle.hart_step.specs.Faults.{target_fault, service_fault, own_fault, word_fault}
-use Rattle.hart_step.specs.Execution.{ended, without_reservation, stored_granule, context_after, contexts_in, contexts_after}
+use Rattle.hart_ctx.specs.Reservation.{without_reservation}
+use Rattle.hart_step.specs.Execution.{contexts_after_store, stored_granule, context_after, contexts_in, contexts_after}
 use Rattle.hart_step.specs.Laws.{ExecutionLeadsToNext}
 
 -- a jump without fault goes to its target
-to_target : (c : Context) (t : Option ℕ) → target_fault t ≡ None → At (unwrap_or t (following c)) ≡ after_target c t
+to_target : (c : Context) (t : Option ℕ) → target_fault t ≡ None → At (unwrap_or t (following_pc c)) ≡ after_target c t
 to_target c None e = refl
 to_target c (Some t) e = by_test (eqb (t % 4) 0) _ e
   where
@@ -30,55 +31,55 @@ to_target c (Some t) e = by_test (eqb (t % 4) 0) _ e
 set_here : (cs : List Context) (h : ℕ) (c : Context) → h < length cs → context_of (slice_set cs h c) h ≡ c
 set_here cs h c lt = rw get_or-set_same refl
 
-length_released : (g : ℕ) (cs : List Context) → length (map (without_reservation g) cs) ≡ length cs
+length_released : (g : ℕ) (cs : List Context) → length (map (without_reservation g g) cs) ≡ length cs
 length_released g [] = refl
 length_released g (c ∷ cs) = ap suc (length_released g cs)
 
-length_ended : (g : Option ℕ) (cs : List Context) → length (ended g cs) ≡ length cs
+length_ended : (g : Option ℕ) (cs : List Context) → length (contexts_after_store g cs) ≡ length cs
 length_ended None cs = refl
 length_ended (Some g) cs = length_released g cs
 
-pc_here : (cs : List Context) (g : Option ℕ) (h : ℕ) (c : Context) → h < length cs → (context_of (slice_set (ended g cs) h c) h).pc ≡ c.pc
+pc_here : (cs : List Context) (g : Option ℕ) (h : ℕ) (c : Context) → h < length cs → (context_of (slice_set (contexts_after_store g cs) h c) h).pc ≡ c.pc
 pc_here cs g h c lt =
-    let within : h < length (ended g cs) = rw length_ended lt in
-    ap (λ (k : Context). k.pc) (set_here (ended g cs) h c within)
+    let within : h < length (contexts_after_store g cs) = rw length_ended lt in
+    ap (λ (k : Context). k.pc) (set_here (contexts_after_store g cs) h c within)
 
 -- whether an interrupt is pending changes no pc
-interrupted-pc : (cs : List Context) (k h : ℕ) → h < length cs → k < length cs → (context_of (interrupted cs k) h).pc ≡ (context_of cs h).pc
-interrupted-pc cs k h lt below = by_same (eqb k h) refl
+with_pending-pc : (cs : List Context) (k h : ℕ) → h < length cs → k < length cs → (context_of (with_pending cs k) h).pc ≡ (context_of cs h).pc
+with_pending-pc cs k h lt below = by_same (eqb k h) refl
   where
-    by_same : (b : Bool) → eqb k h ≡ b → (context_of (interrupted cs k) h).pc ≡ (context_of cs h).pc
+    by_same : (b : Bool) → eqb k h ≡ b → (context_of (with_pending cs k) h).pc ≡ (context_of cs h).pc
     by_same true e = rw (eqb-true k h e) (ap (λ (c : Context). c.pc) (set_here cs h (record (context_of cs h) { pending = true }) lt))
-    by_same false e = let other : h ≢ k = (λ same. false≢true (sym e ∙ eq-eqb k h (sym same))) in let same : context_of (interrupted cs k) h ≡ context_of cs h = rw get_or-set_other refl in ap (λ (c : Context). c.pc) same
+    by_same false e = let other : h ≢ k = (λ same. false≢true (sym e ∙ eq-eqb k h (sym same))) in let same : context_of (with_pending cs k) h ≡ context_of cs h = rw get_or-set_other refl in ap (λ (c : Context). c.pc) same
 
 above : (number k : ℕ) → k < number → eqb number k ≡ false
 above number k lt = ne_eqb number k (λ e. omega arith)
 
-served-high : (number h : ℕ) (c : Context) → 7 < number → (served number h c).pc ≡ cond (eqb number 7) c.epc (following c)
-unfolding served
-served-high number h c gt =
+caller_after-high : (number h : ℕ) (c : Context) → 7 < number → (caller_after number h c).pc ≡ cond (eqb number 7) c.epc (following_pc c)
+unfolding caller_after
+caller_after-high number h c gt =
     rw (above number 0 (omega arith), above number 2 (omega arith), above number 3 (omega arith), above number 4 (omega arith), above number 5 (omega arith), above number 7 (omega arith)) refl
 
 -- where a service leads, by its number
-served-pc : (number h : ℕ) (c : Context) → (served number h c).pc ≡ cond (eqb number 7) c.epc (following c)
-unfolding served
-served-pc zero h c = refl
-served-pc (suc zero) h c = refl
-served-pc (suc (suc zero)) h c = refl
-served-pc (suc (suc (suc zero))) h c = refl
-served-pc (suc (suc (suc (suc zero)))) h c = refl
-served-pc (suc (suc (suc (suc (suc zero))))) h c = refl
-served-pc (suc (suc (suc (suc (suc (suc zero)))))) h c = refl
-served-pc (suc (suc (suc (suc (suc (suc (suc zero))))))) h c = refl
-served-pc (suc (suc (suc (suc (suc (suc (suc (suc n)))))))) h c = served-high (suc (suc (suc (suc (suc (suc (suc (suc n)))))))) h c (omega arith)
+caller_after-pc : (number h : ℕ) (c : Context) → (caller_after number h c).pc ≡ cond (eqb number 7) c.epc (following_pc c)
+unfolding caller_after
+caller_after-pc zero h c = refl
+caller_after-pc (suc zero) h c = refl
+caller_after-pc (suc (suc zero)) h c = refl
+caller_after-pc (suc (suc (suc zero))) h c = refl
+caller_after-pc (suc (suc (suc (suc zero)))) h c = refl
+caller_after-pc (suc (suc (suc (suc (suc zero))))) h c = refl
+caller_after-pc (suc (suc (suc (suc (suc (suc zero)))))) h c = refl
+caller_after-pc (suc (suc (suc (suc (suc (suc (suc zero))))))) h c = refl
+caller_after-pc (suc (suc (suc (suc (suc (suc (suc (suc n)))))))) h c = caller_after-high (suc (suc (suc (suc (suc (suc (suc (suc n)))))))) h c (omega arith)
 
 -- a known service leads where its number says
-known_leads : (six : Bool) (cs : List Context) (h number arg : ℕ) (c : Context) → h < length cs → (six ≡ true → arg < length cs) → (context_of (cond six (interrupted (slice_set cs h (served number h c)) arg) (slice_set cs h (served number h c))) h).pc ≡ cond (eqb number 7) c.epc (following c)
+known_leads : (six : Bool) (cs : List Context) (h number arg : ℕ) (c : Context) → h < length cs → (six ≡ true → arg < length cs) → (context_of (cond six (with_pending (slice_set cs h (caller_after number h c)) arg) (slice_set cs h (caller_after number h c))) h).pc ≡ cond (eqb number 7) c.epc (following_pc c)
 known_leads true cs h number arg c lt below =
-    let within : h < length (slice_set cs h (served number h c)) = search rules in
-    let inside : arg < length (slice_set cs h (served number h c)) = let b = below refl in search rules in
-    interrupted-pc (slice_set cs h (served number h c)) arg h within inside ∙ ap (λ (k : Context). k.pc) (set_here cs h (served number h c) lt) ∙ served-pc number h c
-known_leads false cs h number arg c lt below = ap (λ (k : Context). k.pc) (set_here cs h (served number h c) lt) ∙ served-pc number h c
+    let within : h < length (slice_set cs h (caller_after number h c)) = search rules in
+    let inside : arg < length (slice_set cs h (caller_after number h c)) = let b = below refl in search rules in
+    with_pending-pc (slice_set cs h (caller_after number h c)) arg h within inside ∙ ap (λ (k : Context). k.pc) (set_here cs h (caller_after number h c) lt) ∙ caller_after-pc number h c
+known_leads false cs h number arg c lt below = ap (λ (k : Context). k.pc) (set_here cs h (caller_after number h c) lt) ∙ caller_after-pc number h c
 
 at_cond : (b : Bool) (x y : ℕ) → At (cond b x y) ≡ cond b (At x) (At y)
 at_cond true x y = refl
@@ -92,10 +93,10 @@ service_leads : (cs : List Context) (h : ℕ) → h < length cs → service_faul
 unfolding after_service
 service_leads cs h lt e = by_known (is_known (length cs) (service_number (context_of cs h)) (argument (context_of cs h))) refl e
   where
-    by_known : (b : Bool) → is_known (length cs) (service_number (context_of cs h)) (argument (context_of cs h)) ≡ b → cond {A = Option Fault} b None (Some (record { cause = BadService; addr = service_number (context_of cs h) })) ≡ None → At (context_of (cond b (after_known (service_number (context_of cs h)) (argument (context_of cs h)) cs h) cs) h).pc ≡ cond b (cond (eqb (service_number (context_of cs h)) 7) (At (context_of cs h).epc) (At (following (context_of cs h)))) Nowhere
+    by_known : (b : Bool) → is_known (length cs) (service_number (context_of cs h)) (argument (context_of cs h)) ≡ b → cond {A = Option Fault} b None (Some (record { cause = BadService; addr = service_number (context_of cs h) })) ≡ None → At (context_of (cond b (after_known (service_number (context_of cs h)) (argument (context_of cs h)) cs h) cs) h).pc ≡ cond b (cond (eqb (service_number (context_of cs h)) 7) (At (context_of cs h).epc) (At (following_pc (context_of cs h)))) Nowhere
     by_known true known f =
         ap At (known_leads (eqb (service_number (context_of cs h)) 6) cs h (service_number (context_of cs h)) (argument (context_of cs h)) (context_of cs h) lt (named (length cs) (service_number (context_of cs h)) (argument (context_of cs h)) known))
-        ∙ at_cond (eqb (service_number (context_of cs h)) 7) (context_of cs h).epc (following (context_of cs h))
+        ∙ at_cond (eqb (service_number (context_of cs h)) 7) (context_of cs h).epc (following_pc (context_of cs h))
     by_known false known f = absurd (cc)
 
 -- an instruction of a class

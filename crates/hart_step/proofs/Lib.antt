@@ -1,4 +1,4 @@
-pub mod InPlace
+pub mod Frame
 pub mod Leads
 pub mod Local
 pub mod Rights

@@ -6,7 +6,8 @@ use Rattle.mach_base.specs.declared.memory_range.Segment.{Segment}
 use Rattle.mach_base.specs.declared.memory_range.Kind.{Kind}
 use Rattle.mach_base.specs.declared.memory_range.Kind.TheVariants.{Text, Data, Rodata}
 use Rattle.mach_base.specs.declared.event.Fault.{Fault}
-use Rattle.mem_map.specs.Access.{allows, allowed_in, has_right, is_mapped, all_bytes, access_fault, store_fault}
+use Rattle.mach_base.specs.Bytes.{is_mapped, all_bytes}
+use Rattle.mem_map.specs.Access.{allows, allowed_in, has_right, access_fault, store_fault}
 use Rattle.mem_map.specs.declared.rights.Access.TheVariants.{Load, Store}
 
 kind_allows : (k : Kind) → allows Store k ≡ true → allows Load k ≡ true

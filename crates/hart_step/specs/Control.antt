@@ -23,25 +23,25 @@ target class.Branch c f =
     if branch_taken f.op (register c f.rs1) (register c f.rs2) then Some (wrapped_sum c.pc (immediate f)) else None
 target other c f = None
 
--- the pc behind the instruction
-abbrev pub following : Context → ℕ
-following c = wrapped_sum c.pc 4
+-- the pc of the next instruction in memory
+abbrev pub following_pc : Context → ℕ
+following_pc c = wrapped_sum c.pc 4
 
 -- the pc after an instruction that is no service
 abbrev pub pc_after : Class → Context → Fields → ℕ
-pc_after class c f = unwrap_or (target class c f) (following c)
+pc_after class c f = unwrap_or (target class c f) (following_pc c)
 
--- the pc after a jump to the target, or behind the instruction where it doesn't jump; nowhere at a target that is no
+-- the pc after a jump to the target, or of the next instruction where it doesn't jump; nowhere at a target that is no
 -- multiple of 4
 abbrev pub after_target : Context → Option ℕ → After
-after_target c None = At (following c)
+after_target c None = At (following_pc c)
 after_target c (Some t) = if t % 4 == 0 then At t else Nowhere
 
 -- the pc after the service that the hart asks for: its epc for the return from an interrupt; nowhere for an unknown one
 abbrev pub after_service_call : Context → ℕ → After
 after_service_call c harts =
     if is_known harts (service_number c) (argument c)
-    then (if service_number c == 7 then At c.epc else At (following c))
+    then (if service_number c == 7 then At c.epc else At (following_pc c))
     else Nowhere
 
 -- where an instruction of this class leads
@@ -49,6 +49,7 @@ unfoldable pub next_in : Class → Context → ℕ → Fields → After
 next_in class.Service c harts f = after_service_call c harts
 next_in class c harts f = after_target c (target class c f)
 
+-- the pc after the instruction, if it is one
 abbrev pub next_of : Context → ℕ → Option Fields → After
 next_of c harts None = Nowhere
 next_of c harts (Some f) = next_in (class_of f.op) c harts f

@@ -1,4 +1,4 @@
--- The fault of a word that stands at the pc, after those of fetching it.
+-- The fault of the word at the pc, after those of fetching it.
 use Rattle.std.specs.Prelude.{ℕ, ◌%◌, ◌==◌, Option, Some, None, if◌then◌else◌}
 use Rattle.mach_base.specs.Machine.{Context, Memory}
 use Rattle.mach_base.specs.declared.event.Fault.{Fault}
@@ -33,6 +33,7 @@ own_fault (class.Atomic width) c harts m f = store_fault m (register c f.rs1) wi
 own_fault class.Service c harts m f = service_fault c harts
 own_fault class c harts m f = target_fault (target class c f)
 
+-- the fault of the instruction, or of the word where it is none
 abbrev pub fault_of : Context → ℕ → Memory → ℕ → Option Fields → Option Fault
 fault_of c harts m word None = fault_at Illegal word
 fault_of c harts m word (Some f) = own_fault (class_of f.op) c harts m f

@@ -5,7 +5,7 @@ use Rattle.mach_base.specs.Machine.{Context}
 use Rattle.rv_table.specs.declared.op.Op.{Op}
 use Rattle.rv_table.specs.declared.op.Op.TheVariants.{Lui, Auipc, Jal, Jalr, Lb, Lh, Lw, Ld, Lbu, Lhu, Lwu, Addi, Slti, Sltiu, Xori, Ori, Andi, Slli, Srli, Srai, Addiw, Slliw, Srliw, Sraiw, Fence, Sb, Sh, Sw, Sd, LrW, LrD, ScW, ScD, AmoswapD, AmoaddD, AmoxorD, AmoandD, AmoorD, AmominD, AmomaxD, AmominuD, AmomaxuD, Ecall}
 use Rattle.rv_alu.specs.Results.{is_alu, is_branch, is_amo}
-use Rattle.mem_map.specs.Access.{IsWidth}
+use Rattle.mach_base.specs.Bytes.{IsWidth}
 use Rattle.rv_decode.specs.Fields.{Fields}
 use Rattle.hart_step.specs.declared.class.Class.{Class}
 use Rattle.hart_step.specs.declared.class.Class.TheVariants as class
@@ -106,14 +106,10 @@ wrapped_sum a b = (a + b) % 2 ^ 64
 abbrev pub address : Context → Fields → ℕ
 address c f = wrapped_sum (register c f.rs1) (immediate f)
 
--- the granule of 8 bytes that holds the address, by its number
-abbrev pub granule_of : ℕ → ℕ
-granule_of addr = addr / 8
-
 -- the number of so many bits with its sign carried on to 64
-abbrev pub sign_carried : ℕ → ℕ → ℕ
-sign_carried bits value = if nat_lt value (2 ^ (bits - 1)) then value else value + (2 ^ 64 - 2 ^ bits)
+abbrev pub sign_extension : ℕ → ℕ → ℕ
+sign_extension bits value = if nat_lt value (2 ^ (bits - 1)) then value else value + (2 ^ 64 - 2 ^ bits)
 
 -- what a load of so many bytes puts into a register
-abbrev pub extended : ℕ → Bool → ℕ → ℕ
-extended width signed value = if signed then sign_carried (8 * width) value else value
+abbrev pub extension : ℕ → Bool → ℕ → ℕ
+extension width signed value = if signed then sign_extension (8 * width) value else value

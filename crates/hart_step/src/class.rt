@@ -1,6 +1,6 @@
 ghost use Rattle.std.specs.Prelude.{◌≡◌, ℕ, IsTrue};
 ghost use Rattle.rv_alu.specs.Results.{is_alu, is_branch, is_amo};
-ghost use Rattle.mem_map.specs.Access.{IsWidth};
+ghost use Rattle.mach_base.specs.Bytes.{IsWidth};
 ghost use Rattle.hart_step.specs.Operands.{class_of, other_class, has_immediate, atomic_width, HasWidth, IsOther};
 ghost use Rattle.hart_step.specs.declared.class.Class.TheVariants.{Load, Immediate, Registers, Branch, Atomic};
 

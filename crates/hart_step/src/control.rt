@@ -3,7 +3,7 @@ ghost use Rattle.rv_alu.specs.Results.{is_branch};
 ghost use Rattle.rv_decode.specs.Instruction.{fields_of};
 ghost use Rattle.trap_ipi.specs.Service.{is_known, service_number, argument};
 ghost use Rattle.hart_step.specs.Operands.{class_of};
-ghost use Rattle.hart_step.specs.Control.{even, target, following, after_target, after_service_call, next_in, next_pc};
+ghost use Rattle.hart_step.specs.Control.{even, target, following_pc, after_target, after_service_call, next_in, next_pc};
 ghost use Rattle.hart_step.specs.declared.class.Class.TheVariants.{Branch};
 
 use crate::class::{Class, class_of};
@@ -44,9 +44,9 @@ fn even(number: u64) -> u64
     number - number % 2
 }
 
-/// The pc behind the instruction.
-pub fn following(ctx: &Context) -> u64
-    ensures { result ≡ following ctx.now }
+/// The pc of the next instruction in memory.
+pub fn following_pc(ctx: &Context) -> u64
+    ensures { result ≡ following_pc ctx.now }
 {
     ctx.pc.wrapping_add(4)
 }
@@ -77,7 +77,7 @@ fn after_target(ctx: &Context, target: Option<u64>) -> After
     ensures { result ≡ after_target ctx.now target }
 {
     match target {
-        None => After::At(following(ctx)),
+        None => After::At(following_pc(ctx)),
         Some(target) if target % 4 == 0 => After::At(target),
         Some(_) => After::Nowhere,
     }
@@ -92,7 +92,7 @@ fn after_service_call(ctx: &Context, harts: u8) -> After
     if ctx.get(17) == 7 {
         After::At(ctx.epc)
     } else {
-        After::At(following(ctx))
+        After::At(following_pc(ctx))
     }
 }
 

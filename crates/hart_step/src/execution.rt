@@ -2,23 +2,24 @@ ghost use Rattle.std.specs.Prelude.{◌≡◌, ℕ, ◌<◌, Option, Some, None,
 ghost use Rattle.std.specs.Result.{result_err};
 ghost use Rattle.mach_base.specs.Machine.{Memory};
 ghost use Rattle.hart_ctx.specs.Context.{context_of};
+ghost use Rattle.hart_ctx.specs.Reservation.{granule_of};
 ghost use Rattle.rv_alu.specs.Results.{is_alu, is_branch, is_amo};
-ghost use Rattle.mem_map.specs.Access.{IsWidth, access_fault, store_fault, number_in, stored};
+ghost use Rattle.mach_base.specs.Bytes.{IsWidth, number_in};
+ghost use Rattle.mem_map.specs.Access.{access_fault, store_fault, after_store};
 ghost use Rattle.rv_decode.specs.Instruction.{fields_of};
-ghost use Rattle.hart_step.specs.Operands.{class_of, HasWidth, register, address, extended, granule_of};
+ghost use Rattle.hart_step.specs.Operands.{class_of, HasWidth, register, address, extension};
 ghost use Rattle.mem_map.specs.declared.rights.Access.TheVariants as access;
 ghost use Rattle.trap_ipi.specs.Service.{after_service, answer};
 ghost use Rattle.hart_step.specs.Control.{target};
-ghost use Rattle.hart_step.specs.Faults.{target_fault, service_fault, own_fault, word_fault};
-ghost use Rattle.hart_step.specs.Execution.{IsLocal, written, context_after, served_byte, holds_reservation, contexts_in, memory_in, byte_in, contexts_after, memory_after, byte_sent, did_by, unless_faulted};
+ghost use Rattle.hart_step.specs.Faults.{target_fault, service_fault};
+ghost use Rattle.hart_step.specs.Execution.{IsLocal, with_result, context_after, served_byte, holds_reservation, contexts_after_store, contexts_in, memory_in, byte_in, contexts_after, memory_after, byte_sent, did_by, fault_for, own_fault_for, unless_faulted};
 ghost use Rattle.hart_step.specs.declared.class.Class.TheVariants.{Immediate, Registers, Branch, Load, Store, Reserve, Conditional, Atomic};
 
 use crate::class::{Class, class_of};
-use crate::control::{following, target};
+use crate::control::{following_pc, target};
 use crate::fault::{illegal, target_fault};
-use crate::operands::{address, extended, first, immediate, second};
-use crate::reservations::{end_reservations, granule_of, is_on};
-use hart_ctx::Context;
+use crate::operands::{address, extension, first, immediate, second};
+use hart_ctx::{Context, end_reservations, granule_of, is_among};
 use mach_base::{Cause, Fault, Hart};
 use mem_map::Map;
 use rv_alu::{alu, amo};
@@ -34,14 +35,14 @@ pub enum Did {
     Fault(Fault),
 }
 
-/// Executes the word for hart h, one of the contexts, at whose pc it stands; nothing is fetched. Fault comes exactly where
+/// Executes the word for hart h, one of the contexts, at whose pc it is; nothing is fetched. Fault comes exactly where
 /// `fault_of` gives that fault.
 #[tactic(auto, unfolding(crate::specs::Faults::word_fault, crate::specs::Execution::contexts_after, crate::specs::Execution::memory_after, crate::specs::Execution::byte_sent))]
 pub fn exec(ctxs: &mut [Context], map: &mut Map, h: Hart, word: u32) -> Did
     requires { h.0 < length ctxs.old }
-    ensures answer { result ≡ did_by (word_fault (context_of ctxs.old h.0) (length ctxs.old) map.old word) (byte_sent ctxs.old h.0 word) }
-    ensures contexts { ctxs.new ≡ unless_faulted (word_fault (context_of ctxs.old h.0) (length ctxs.old) map.old word) ctxs.old (contexts_after ctxs.old map.old h.0 word) }
-    ensures memory { map.new ≡ unless_faulted (word_fault (context_of ctxs.old h.0) (length ctxs.old) map.old word) map.old (memory_after map.old (context_of ctxs.old h.0) word) }
+    ensures answer { result ≡ did_by (fault_for ctxs.old map.old h.0 word) (byte_sent ctxs.old h.0 word) }
+    ensures contexts { ctxs.new ≡ unless_faulted (fault_for ctxs.old map.old h.0 word) ctxs.old (contexts_after ctxs.old map.old h.0 word) }
+    ensures memory { map.new ≡ unless_faulted (fault_for ctxs.old map.old h.0 word) map.old (memory_after map.old (context_of ctxs.old h.0) word) }
 {
     let Some(insn) = decode(word) else {
         return Did::Fault(illegal(word));
@@ -58,9 +59,9 @@ fn execute(ctxs: &mut [Context], map: &mut Map, h: Hart, class: Class, insn: &In
     requires registers { class ≡ Registers → IsTrue (is_alu insn.now.op) }
     requires branch { class ≡ Branch → IsTrue (is_branch insn.now.op) }
     requires atomic { (width : ℕ) → class ≡ Atomic width → IsTrue (is_amo insn.now.op) }
-    ensures answer { result ≡ did_by (own_fault class (context_of ctxs.old h.0) (length ctxs.old) map.old (fields_of insn.now)) (byte_in class ctxs.old h.0) }
-    ensures contexts { ctxs.new ≡ unless_faulted (own_fault class (context_of ctxs.old h.0) (length ctxs.old) map.old (fields_of insn.now)) ctxs.old (contexts_in class ctxs.old map.old h.0 (fields_of insn.now)) }
-    ensures memory { map.new ≡ unless_faulted (own_fault class (context_of ctxs.old h.0) (length ctxs.old) map.old (fields_of insn.now)) map.old (memory_in class map.old (context_of ctxs.old h.0) (fields_of insn.now)) }
+    ensures answer { result ≡ did_by (own_fault_for class ctxs.old map.old h.0 (fields_of insn.now)) (byte_in class ctxs.old h.0) }
+    ensures contexts { ctxs.new ≡ unless_faulted (own_fault_for class ctxs.old map.old h.0 (fields_of insn.now)) ctxs.old (contexts_in class ctxs.old map.old h.0 (fields_of insn.now)) }
+    ensures memory { map.new ≡ unless_faulted (own_fault_for class ctxs.old map.old h.0 (fields_of insn.now)) map.old (memory_in class map.old (context_of ctxs.old h.0) (fields_of insn.now)) }
 {
     match class {
         Class::Service => call_service(ctxs, h),
@@ -107,8 +108,8 @@ fn local_step(ctxs: &mut [Context], h: Hart, class: Class, insn: &Insn) -> Did
     requires immediate { class ≡ Immediate → IsTrue (is_alu insn.now.op) }
     requires registers { class ≡ Registers → IsTrue (is_alu insn.now.op) }
     requires branch { class ≡ Branch → IsTrue (is_branch insn.now.op) }
-    ensures answer { (m : Memory) → result ≡ did_by (own_fault class (context_of ctxs.old h.0) (length ctxs.old) m (fields_of insn.now)) (byte_in class ctxs.old h.0) }
-    ensures contexts { (m : Memory) → ctxs.new ≡ unless_faulted (own_fault class (context_of ctxs.old h.0) (length ctxs.old) m (fields_of insn.now)) ctxs.old (contexts_in class ctxs.old m h.0 (fields_of insn.now)) }
+    ensures answer { (m : Memory) → result ≡ did_by (own_fault_for class ctxs.old m h.0 (fields_of insn.now)) (byte_in class ctxs.old h.0) }
+    ensures contexts { (m : Memory) → ctxs.new ≡ unless_faulted (own_fault_for class ctxs.old m h.0 (fields_of insn.now)) ctxs.old (contexts_in class ctxs.old m h.0 (fields_of insn.now)) }
     ensures memory { (m : Memory) (fault : Option Fault) → unless_faulted fault m (memory_in class m (context_of ctxs.old h.0) (fields_of insn.now)) ≡ m }
 {
     let ctx = &ctxs[usize::from(h.0)];
@@ -120,7 +121,7 @@ fn local_step(ctxs: &mut [Context], h: Hart, class: Class, insn: &Insn) -> Did
     Did::Done(None)
 }
 
-/// Writes the destination register and goes on, at the target or behind the instruction.
+/// Writes the destination register and goes on, at the target or after the instruction.
 fn advance(ctx: &mut Context, class: Class, insn: &Insn, to: Option<u64>)
     requires local { IsLocal class }
     requires immediate { class ≡ Immediate → IsTrue (is_alu insn.now.op) }
@@ -128,18 +129,18 @@ fn advance(ctx: &mut Context, class: Class, insn: &Insn, to: Option<u64>)
     requires target { to ≡ target class ctx.old (fields_of insn.now) }
     ensures { (m : Memory) → ctx.new ≡ context_after class m ctx.old (fields_of insn.now) }
 {
-    let pc = to.unwrap_or(following(ctx));
+    let pc = to.unwrap_or(following_pc(ctx));
     write(ctx, class, insn);
     ctx.pc = pc;
 }
 
 /// Writes the destination register of an instruction that doesn't touch memory.
-#[tactic(auto, unfolding(crate::specs::Execution::written))]
+#[tactic(auto, unfolding(crate::specs::Execution::with_result))]
 fn write(ctx: &mut Context, class: Class, insn: &Insn)
     requires local { IsLocal class }
     requires immediate { class ≡ Immediate → IsTrue (is_alu insn.now.op) }
     requires registers { class ≡ Registers → IsTrue (is_alu insn.now.op) }
-    ensures { (m : Memory) → ctx.new ≡ written class m ctx.old (fields_of insn.now) }
+    ensures { (m : Memory) → ctx.new ≡ with_result class m ctx.old (fields_of insn.now) }
 {
     let rd = insn.rd;
     match class {
@@ -149,7 +150,7 @@ fn write(ctx: &mut Context, class: Class, insn: &Insn)
             ctx.set(rd, sum);
         }
         Class::Jump | Class::JumpRegister => {
-            let link = following(ctx);
+            let link = following_pc(ctx);
             ctx.set(rd, link);
         }
         Class::Immediate => {
@@ -164,7 +165,7 @@ fn write(ctx: &mut Context, class: Class, insn: &Insn)
     }
 }
 
-#[tactic(auto, unfolding(crate::specs::Execution::written, crate::specs::Execution::contexts_in, crate::specs::Execution::stored_granule, crate::specs::Control::target, mem_map::specs::Access::loaded))]
+#[tactic(auto, unfolding(crate::specs::Execution::with_result, crate::specs::Execution::contexts_in, crate::specs::Execution::stored_granule, crate::specs::Control::target, mem_map::specs::Access::load_result))]
 fn load(
     ctxs: &mut [Context],
     map: &Map,
@@ -182,27 +183,27 @@ fn load(
     let ctx = &ctxs[usize::from(h.0)];
     let value = map.load(address(ctx, insn), width)?;
     let ctx = &mut ctxs[usize::from(h.0)];
-    let pc = following(ctx);
-    ctx.set(insn.rd, extended(value, width, signed));
+    let pc = following_pc(ctx);
+    ctx.set(insn.rd, extension(value, width, signed));
     ctx.pc = pc;
     Ok(())
 }
 
 /// The bytes of an access that needs the right to store, as a number with its sign carried on.
-#[tactic(auto, using(crate::proofs::Rights::load_where_stored), unfolding(mem_map::specs::Access::loaded))]
+#[tactic(auto, using(crate::proofs::Rights::load_where_stored), unfolding(mem_map::specs::Access::load_result))]
 fn old_value(map: &Map, addr: u64, width: u8) -> Result<u64, Fault>
     requires { IsWidth width }
     ensures fault { result_err result ≡ store_fault map.now addr width }
-    ensures value { IfOk result (λ value. value ≡ extended width true (number_in map.now addr width)) }
+    ensures value { IfOk result (λ value. value ≡ extension width true (number_in map.now addr width)) }
 {
     map.storable(addr, width)?;
     match map.load(addr, width) {
-        Ok(value) => Ok(extended(value, width, true)),
+        Ok(value) => Ok(extension(value, width, true)),
         Err(_) => unreachable!(),
     }
 }
 
-#[tactic(auto, unfolding(crate::specs::Execution::written, crate::specs::Execution::contexts_in, crate::specs::Execution::stored_granule, crate::specs::Control::target))]
+#[tactic(auto, unfolding(crate::specs::Execution::with_result, crate::specs::Execution::contexts_in, crate::specs::Execution::stored_granule, crate::specs::Control::target))]
 fn reserve(ctxs: &mut [Context], map: &Map, h: Hart, insn: &Insn, width: u8) -> Result<(), Fault>
     requires hart { h.0 < length ctxs.old }
     requires width { IsWidth width }
@@ -214,14 +215,14 @@ fn reserve(ctxs: &mut [Context], map: &Map, h: Hart, insn: &Insn, width: u8) -> 
     let addr = first(ctx, insn);
     let value = old_value(map, addr, width)?;
     let ctx = &mut ctxs[usize::from(h.0)];
-    let pc = following(ctx);
+    let pc = following_pc(ctx);
     ctx.set(insn.rd, value);
     ctx.reservation = Some(granule_of(addr));
     ctx.pc = pc;
     Ok(())
 }
 
-#[tactic(auto, unfolding(crate::specs::Execution::written, crate::specs::Execution::contexts_in, crate::specs::Execution::memory_in, crate::specs::Execution::stored_granule, crate::specs::Control::target))]
+#[tactic(auto, unfolding(crate::specs::Execution::with_result, crate::specs::Execution::contexts_in, crate::specs::Execution::memory_in, crate::specs::Execution::stored_granule, crate::specs::Control::target))]
 fn store(ctxs: &mut [Context], map: &mut Map, h: Hart, insn: &Insn, width: u8) -> Result<(), Fault>
     requires hart { h.0 < length ctxs.old }
     requires width { IsWidth width }
@@ -233,13 +234,13 @@ fn store(ctxs: &mut [Context], map: &mut Map, h: Hart, insn: &Insn, width: u8) -
     let mut ctx = ctxs[usize::from(h.0)];
     let addr = address(&ctx, insn);
     map.store(addr, width, second(&ctx, insn))?;
-    ctx.pc = following(&ctx);
-    end_reservations(ctxs, granule_of(addr));
+    ctx.pc = following_pc(&ctx);
+    end_on_granule(ctxs, addr);
     ctxs[usize::from(h.0)] = ctx;
     Ok(())
 }
 
-#[tactic(auto, unfolding(crate::specs::Execution::written, crate::specs::Execution::contexts_in, crate::specs::Execution::memory_in, crate::specs::Execution::stored_granule, crate::specs::Control::target))]
+#[tactic(auto, unfolding(crate::specs::Execution::with_result, crate::specs::Execution::contexts_in, crate::specs::Execution::memory_in, crate::specs::Execution::stored_granule, crate::specs::Control::target))]
 fn atomic(ctxs: &mut [Context], map: &mut Map, h: Hart, insn: &Insn, width: u8) -> Result<(), Fault>
     requires hart { h.0 < length ctxs.old }
     requires width { IsWidth width }
@@ -254,17 +255,25 @@ fn atomic(ctxs: &mut [Context], map: &mut Map, h: Hart, insn: &Insn, width: u8) 
     let old = old_value(map, addr, width)?;
     put(map, addr, width, amo(insn.op, old, second(&ctx, insn)));
     ctx.set(insn.rd, old);
-    ctx.pc = following(&ctx);
-    end_reservations(ctxs, granule_of(addr));
+    ctx.pc = following_pc(&ctx);
+    end_on_granule(ctxs, addr);
     ctxs[usize::from(h.0)] = ctx;
     Ok(())
+}
+
+/// Ends the reservations on the granule of an address that is stored to.
+fn end_on_granule(ctxs: &mut [Context], addr: u64)
+    ensures { ctxs.new ≡ contexts_after_store (Some (granule_of addr)) ctxs.old }
+{
+    let granule = granule_of(addr);
+    end_reservations(ctxs, granule, granule);
 }
 
 /// A store where it is known not to fault.
 fn put(map: &mut Map, addr: u64, width: u8, value: u64)
     requires width { IsWidth width }
     requires right { store_fault map.old addr width ≡ None }
-    ensures { map.new ≡ stored map.old addr width value }
+    ensures { map.new ≡ after_store map.old addr width value }
 {
     match map.store(addr, width, value) {
         Ok(()) => {}
@@ -289,7 +298,8 @@ fn store_conditional(
 {
     let ctx = &ctxs[usize::from(h.0)];
     let addr = first(ctx, insn);
-    let held = is_on(granule_of(addr), ctx.reservation);
+    let granule = granule_of(addr);
+    let held = is_among(granule, granule, ctx.reservation);
     map.storable(addr, width)?;
     if held {
         succeed(ctxs, map, h, insn, width);
@@ -300,7 +310,7 @@ fn store_conditional(
 }
 
 /// A store-conditional that succeeds.
-#[tactic(auto, unfolding(crate::specs::Execution::written, crate::specs::Execution::contexts_in, crate::specs::Execution::memory_in, crate::specs::Execution::stored_granule, crate::specs::Control::target))]
+#[tactic(auto, unfolding(crate::specs::Execution::with_result, crate::specs::Execution::contexts_in, crate::specs::Execution::memory_in, crate::specs::Execution::stored_granule, crate::specs::Control::target))]
 fn succeed(ctxs: &mut [Context], map: &mut Map, h: Hart, insn: &Insn, width: u8)
     requires hart { h.0 < length ctxs.old }
     requires width { IsWidth width }
@@ -314,18 +324,18 @@ fn succeed(ctxs: &mut [Context], map: &mut Map, h: Hart, insn: &Insn, width: u8)
     put(map, addr, width, second(&ctx, insn));
     ctx.set(insn.rd, 0);
     ctx.reservation = None;
-    ctx.pc = following(&ctx);
-    end_reservations(ctxs, granule_of(addr));
+    ctx.pc = following_pc(&ctx);
+    end_on_granule(ctxs, addr);
     ctxs[usize::from(h.0)] = ctx;
 }
 
 /// A store-conditional that fails: nothing is stored, and the reservation is gone.
-#[tactic(auto, unfolding(crate::specs::Execution::written, crate::specs::Control::target))]
+#[tactic(auto, unfolding(crate::specs::Execution::with_result, crate::specs::Control::target))]
 fn fail(ctx: &mut Context, insn: &Insn)
     requires { holds_reservation ctx.old (fields_of insn.now) ≡ false }
     ensures { (width : ℕ) (m : Memory) → ctx.new ≡ context_after (Conditional width) m ctx.old (fields_of insn.now) }
 {
     ctx.set(insn.rd, 1);
     ctx.reservation = None;
-    ctx.pc = following(ctx);
+    ctx.pc = following_pc(ctx);
 }

@@ -37,7 +37,7 @@ pub fn illegal(word: u32) -> Fault
     }
 }
 
-#[tactic(auto, unfolding(crate::specs::Faults::own_fault, mem_map::specs::Access::loaded))]
+#[tactic(auto, unfolding(crate::specs::Faults::own_fault, mem_map::specs::Access::load_result))]
 fn own_fault(class: Class, ctx: &Context, harts: u8, map: &Map, insn: &Insn) -> Option<Fault>
     requires branch { class ≡ Branch → IsTrue (is_branch insn.now.op) }
     requires width { HasWidth class }

@@ -1,7 +1,7 @@
 ghost use Rattle.std.specs.Prelude.{◌≡◌, ◌<◌, ◌^◌};
-ghost use Rattle.mem_map.specs.Access.{IsWidth};
+ghost use Rattle.mach_base.specs.Bytes.{IsWidth};
 ghost use Rattle.rv_decode.specs.Instruction.{fields_of};
-ghost use Rattle.hart_step.specs.Operands.{register, immediate, address, extended};
+ghost use Rattle.hart_step.specs.Operands.{register, immediate, address, extension};
 
 use hart_ctx::Context;
 use rv_decode::Insn;
@@ -35,10 +35,10 @@ pub fn address(ctx: &Context, insn: &Insn) -> u64
 }
 
 /// What a load of so many bytes puts into a register.
-pub fn extended(value: u64, width: u8, signed: bool) -> u64
+pub fn extension(value: u64, width: u8, signed: bool) -> u64
     requires width { IsWidth width }
     requires fits { value < 256 ^ width }
-    ensures { result ≡ extended width signed value }
+    ensures { result ≡ extension width signed value }
 {
     if !signed {
         return value;

@@ -2,6 +2,10 @@ pub mod Numbers
 pub mod Parts
 pub mod Sound
 pub mod Steps
+pub mod Entries
+pub mod Drafts
+pub mod RightLines
+pub mod Grammar
 pub mod Spelled
 pub mod Texts
 pub mod RoundTrip

@@ -1,9 +1,10 @@
 -- The numbers of a line, read one by one.
 use Rattle.std.proofs.Common.{◌≡◌, ℕ, List, [], ◌∷◌, ◌++◌, Result, Ok, Err, refl, sym, ap, ◌∙◌, append_assoc}
 use Rattle.img_text.specs.declared.fault.Why.{Why}
-use Rattle.img_text.specs.Directives.{◌>>=◌, number_up_to, each_number}
+use Rattle.mach_base.specs.Sequence.{◌>>=◌}
+use Rattle.img_text.specs.Directives.{number_up_to, each_number}
 
--- what reading gives, behind the numbers in front
+-- what reading gives, after the numbers in front
 abbrev pub prepended : List ℕ → Result (List ℕ) Why → Result (List ℕ) Why
 prepended front (Ok ns) = Ok (front ++ ns)
 prepended front (Err why) = Err why

@@ -10,6 +10,7 @@ use Rattle.hart_ctx.specs.Context.{start_context}
 use Rattle.mem_map.specs.Parts.{segments_of}
 use Rattle.img_text.specs.Image.{ImageRecord}
 
+-- the base of a segment of text, else the other address
 abbrev base_if_text : Kind → ℕ → ℕ → ℕ
 base_if_text Text base other = base
 base_if_text Data base other = other

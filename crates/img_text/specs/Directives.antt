@@ -4,17 +4,13 @@ use Rattle.std.specs.Str.{bytes_eq}
 use Rattle.mach_base.specs.declared.memory_range.Kind.TheVariants.{Text, Data, Rodata}
 use Rattle.mach_base.specs.declared.number.NumFault.{NumFault}
 use Rattle.mach_base.specs.Number.{number_of}
+use Rattle.mach_base.specs.Sequence.{◌>>=◌}
 use Rattle.img_text.specs.declared.fault.Why.{Why}
 use Rattle.img_text.specs.declared.fault.Why.TheVariants.{Word, Number}
 use Rattle.img_text.specs.declared.directive.Width.{Width}
 use Rattle.img_text.specs.declared.directive.Width.TheVariants.{One, Four, Eight}
 use Rattle.img_text.specs.declared.directive.Directive.{Directive}
 use Rattle.img_text.specs.declared.directive.Directive.TheVariants.{Begin, Put, Pc, Sp}
-
-infixl 10 ◌>>=◌
-abbrev pub ◌>>=◌ : {A B E : Type 0} → Result A E → (A → Result B E) → Result B E
-(Ok x) >>= f = f x
-(Err e) >>= f = Err e
 
 -- the directive of a line's first word, if it is one
 abbrev pub directive_of : List ℕ → Option Directive
@@ -34,25 +30,27 @@ size_of One = 1
 size_of Four = 4
 size_of Eight = 8
 
--- how many numbers a directive has: at least, and at most
+-- how many numbers a directive has at least
 abbrev pub least_of : Directive → ℕ
 least_of (Begin kind) = 2
 least_of (Put width) = 1
 least_of Pc = 2
 least_of Sp = 2
 
+-- how many it has at most
 abbrev pub most_of : Directive → ℕ
 most_of (Begin kind) = 2
 most_of (Put width) = 8
 most_of Pc = 2
 most_of Sp = 2
 
--- the largest number that a directive may have
+-- the largest value of a width
 abbrev pub largest_value : Width → ℕ
 largest_value One = 255
 largest_value Four = 4294967295
 largest_value Eight = 18446744073709551615
 
+-- the largest number that a directive may have
 abbrev pub largest_of : Directive → ℕ
 largest_of (Begin kind) = 18446744073709551615
 largest_of (Put width) = largest_value width
@@ -64,6 +62,7 @@ abbrev pub up_to : ℕ → Result ℕ NumFault → Result ℕ Why
 up_to largest (Ok n) = if nat_le n largest then Ok n else Err Number
 up_to largest (Err e) = Err Number
 
+-- the number that the word writes, if it is at most the largest
 abbrev pub number_up_to : ℕ → List ℕ → Result ℕ Why
 number_up_to largest word = up_to largest (number_of 10 word)
 
@@ -79,10 +78,12 @@ each_number largest (w ∷ ws) = do
 abbrev pub has_count : ℕ → ℕ → List (List ℕ) → Bool
 has_count least most words = nat_le least (length words) && nat_le (length words) most
 
+-- whether the word begins with #
 abbrev pub is_comment : List ℕ → Bool
 is_comment [] = false
 is_comment (b ∷ bs) = b == 35
 
+-- the directive with the numbers that the words write
 abbrev pub with_numbers : Option Directive → List (List ℕ) → Result (Option (Directive × List ℕ)) Why
 with_numbers None words = Err Word
 with_numbers (Some d) words =

@@ -2,6 +2,7 @@
 use Rattle.std.specs.Prelude.{◌≡◌, ℕ, ◌-◌, ◌<◌, List, ◌++◌, length, replicate, Option}
 use Rattle.std.specs.List.{AllByRecursion}
 use Rattle.mach_base.specs.declared.memory_range.Segment.{Segment}
+use Rattle.mach_base.specs.declared.limits.TheConstants.{MOST_HARTS}
 use Rattle.mach_base.specs.Machine.{AreSegments, Part}
 use Rattle.mem_map.specs.Parts.{segments_of, IsWhole}
 
@@ -25,5 +26,5 @@ pub record IsImage (image : ImageRecord) : Type 0 where
   pub segments : AreSegments (segments_of image.parts)
   pub whole : AllByRecursion IsWhole image.parts
   pub bytes : AllByRecursion HasBytes image.parts
-  pub pcs : length image.pcs ≡ 16
-  pub sps : length image.sps ≡ 16
+  pub pcs : length image.pcs ≡ MOST_HARTS
+  pub sps : length image.sps ≡ MOST_HARTS

@@ -5,6 +5,7 @@ use Rattle.std.specs.List.{list_any, flat_map}
 use Rattle.std.specs.Int.{bytes_low_first}
 use Rattle.mach_base.specs.declared.event.What.TheVariants.{Segments, Memory}
 use Rattle.mach_base.specs.declared.memory_range.Segment.{Segment}
+use Rattle.mach_base.specs.declared.limits.TheConstants.{MOST_HARTS, MOST_SEGMENTS, MOST_MEMORY}
 use Rattle.mach_base.specs.Machine.{Part, HasBounds, memory_size, is_text_segment}
 use Rattle.img_text.specs.declared.fault.Why.{Why}
 use Rattle.img_text.specs.declared.fault.Why.TheVariants.{Header, Bounds, Order, Overrun, Hart, NoText}
@@ -18,7 +19,8 @@ use Rattle.img_text.specs.declared.directive.Directive.TheVariants.{Begin, Put, 
 use Rattle.mach_base.specs.Lines.{lines_of, words_of}
 use Rattle.mem_map.specs.Parts.{segments_of}
 use Rattle.img_text.specs.Image.{ImageRecord, filled}
-use Rattle.img_text.specs.Directives.{◌>>=◌, line_of, size_of}
+use Rattle.mach_base.specs.Sequence.{◌>>=◌}
+use Rattle.img_text.specs.Directives.{line_of, size_of}
 
 -- what the lines so far give: the segments, the latest first, each with the bytes that were put into it, and for each
 -- hart number the starts
@@ -27,11 +29,12 @@ pub record Draft : Type 0 where
   pub pcs : List (Option ℕ)
   pub sps : List (Option ℕ)
 
--- what a call left, where `after` is read, is what reading gives, unless memory ran out
+-- what a call refused is what reading refuses, unless memory ran out
 abbrev pub IsRefusal : {A : Type 0} → LineFault → Result A Why → Type 0
 IsRefusal (line_faults.Refused why) read = read ≡ Err why
 IsRefusal line_faults.NoMemory read = Unit {0}
 
+-- what a call left, where it didn't refuse
 abbrev pub Leaves : {A : Type 0} → Result (Unit {0}) LineFault → A → Result A Why → Type 0
 Leaves (Ok _) after read = read ≡ Ok after
 Leaves (Err fault) after read = IsRefusal fault read
@@ -47,6 +50,7 @@ IsFault (Bad line why) read = read ≡ Err (Bad line why)
 IsFault (TooLarge what size) read = read ≡ Err (TooLarge what size)
 IsFault OutOfMemory read = Unit {0}
 
+-- so is what it gave where it didn't refuse
 abbrev pub Gives : {A : Type 0} → Result A ImageFault → Result A ImageFault → Type 0
 Gives (Ok x) read = read ≡ Ok x
 Gives (Err fault) read = IsFault fault read
@@ -64,7 +68,7 @@ has_bounds s = (s.base % 8 == 0) && (s.len % 8 == 0) && nat_lt 0 s.len && nat_le
 abbrev pub IsShort : Part → Type 0
 IsShort p = length p.bytes ≤ p.segment.len
 
--- the parts, the latest first, have bounds and stand in order, and no part has more bytes than its segment
+-- the parts, the latest first, have bounds and are in order, and no part has more bytes than its segment
 abbrev pub AreSound : List Part → Type 0
 AreSound [] = Unit {0}
 AreSound (p ∷ ps) = HasBounds p.segment × (end_of ps ≤ p.segment.base) × IsShort p × AreSound ps
@@ -87,7 +91,7 @@ put width values (p ∷ ps) =
 -- a start is given to a hart number that has none
 abbrev pub start : ℕ → ℕ → List (Option ℕ) → Result (List (Option ℕ)) Why
 start hart addr starts =
-    if nat_lt hart 16 && is_none (slice_index_or starts hart None) then Ok (slice_set starts hart (Some addr)) else Err Hart
+    if nat_lt hart MOST_HARTS && is_none (slice_index_or starts hart None) then Ok (slice_set starts hart (Some addr)) else Err Hart
 
 -- what a directive with its numbers does
 unfoldable pub applied : Draft → Directive → List ℕ → Result Draft Why
@@ -102,6 +106,7 @@ abbrev pub after_line : Draft → Option (Directive × List ℕ) → Result Draf
 after_line draft None = Ok draft
 after_line draft (Some line) = applied draft line.0 line.1
 
+-- what the line of these bytes does
 unfoldable pub read_line : Draft → List ℕ → Result Draft Why
 read_line draft line = line_of (words_of line) >>= after_line draft
 
@@ -114,11 +119,11 @@ at_line line (Err why) = Err (Bad line why)
 abbrev pub has_text : List Segment → Bool
 has_text segments = list_any (λ s. is_text_segment (Some s)) segments
 
--- the value, if there are at most 64 segments and 16 MiB of memory
+-- the value, if there are not too many segments and not too much memory
 abbrev pub within_limits : {A : Type 0} → List Segment → A → Result A ImageFault
 within_limits segments value =
-    if nat_lt 64 (length segments) then Err (TooLarge Segments (length segments)) else (
-    if nat_lt 16777216 (memory_size segments) then Err (TooLarge Memory (memory_size segments)) else Ok value)
+    if nat_lt MOST_SEGMENTS (length segments) then Err (TooLarge Segments (length segments)) else (
+    if nat_lt MOST_MEMORY (memory_size segments) then Err (TooLarge Memory (memory_size segments)) else Ok value)
 
 -- the image of these parts in order, where the last line is the one before this number
 unfoldable pub whole_image : ℕ → List Part → List (Option ℕ) → List (Option ℕ) → Result ImageRecord ImageFault
@@ -130,8 +135,9 @@ unfoldable pub read_lines : ℕ → Draft → List (List ℕ) → Result ImageRe
 read_lines line draft [] = whole_image line (reverse draft.parts) draft.pcs draft.sps
 read_lines line draft (l ∷ ls) = at_line line (read_line draft l) >>= λ next. read_lines (line + 1) next ls
 
+-- no hart has a start
 abbrev pub no_starts : List (Option ℕ)
-no_starts = replicate 16 None
+no_starts = replicate MOST_HARTS None
 
 -- whether the words are those of the first line
 abbrev pub is_header : List (List ℕ) → Bool
@@ -146,5 +152,6 @@ image_of_lines [] = Err (Bad 1 Header)
 image_of_lines (l ∷ ls) =
     if is_header (words_of l) then read_lines 2 (record { parts = []; pcs = no_starts; sps = no_starts }) ls else Err (Bad 1 Header)
 
+-- the same of a text
 abbrev pub image_of : List ℕ → Result ImageRecord ImageFault
 image_of text = image_of_lines (lines_of text)

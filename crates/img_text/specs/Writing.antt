@@ -7,7 +7,7 @@ use Rattle.mach_base.specs.Number.{dec_text}
 use Rattle.mach_base.specs.Machine.{Part}
 use Rattle.img_text.specs.Image.{ImageRecord}
 
--- the numbers, each behind a blank, and the line's end
+-- the numbers, each after a blank, and the line's end
 abbrev pub numbers_text : List ℕ → List ℕ
 numbers_text [] = 10 ∷ []
 numbers_text (n ∷ ns) = 32 ∷ (dec_text n ++ numbers_text ns)
@@ -16,6 +16,7 @@ numbers_text (n ∷ ns) = 32 ∷ (dec_text n ++ numbers_text ns)
 unfoldable pub directive_text : List ℕ → List ℕ → List ℕ
 directive_text name ns = name ++ numbers_text ns
 
+-- the word of a segment line
 abbrev pub name_of : Kind → List ℕ
 name_of Text = codes "text"
 name_of Data = codes "data"
@@ -36,6 +37,7 @@ unfoldable pub part_text : Part → List ℕ
 part_text p =
     directive_text (name_of p.segment.kind) (p.segment.base ∷ p.segment.len ∷ []) ++ values_text (values_of (length p.bytes / 8) p.bytes)
 
+-- the segments with their values, in order
 unfoldable pub parts_text : List Part → List ℕ
 parts_text [] = []
 parts_text (p ∷ ps) = part_text p ++ parts_text ps
@@ -50,6 +52,7 @@ unfoldable pub starts_text : List ℕ → ℕ → List (Option ℕ) → List ℕ
 starts_text name hart [] = []
 starts_text name hart (start ∷ rest) = start_text name hart start ++ starts_text name (hart + 1) rest
 
+-- an image: the first line, the segments, the starts
 unfoldable pub image_text : ImageRecord → List ℕ
 image_text image =
     directive_text (codes "kimg") (1 ∷ []) ++ (parts_text image.parts ++ (starts_text (codes "pc") 0 image.pcs ++ starts_text (codes "sp") 0 image.sps))

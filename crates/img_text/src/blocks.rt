@@ -1,6 +1,6 @@
 //! The segments of an image while it is read.
 
-ghost use Rattle.std.specs.Prelude.{◌≡◌, ◌+◌, ◌*◌, ◌<◌, ◌≤◌, ◌^◌, ◌++◌, length, map, OnOk};
+ghost use Rattle.std.specs.Prelude.{◌≡◌, ◌+◌, ◌*◌, ◌<◌, ◌≤◌, ◌^◌, [], ◌∷◌, ◌++◌, length, map, OnOk};
 ghost use Rattle.std.specs.List.{flat_map};
 ghost use Rattle.mach_base.specs.Machine.{memory_size, is_text_segment};
 ghost use Rattle.img_text.specs.Directives.{size_of};
@@ -10,8 +10,7 @@ ghost use Rattle.img_text.specs.Blocks.{parts_of, latest_first};
 
 use crate::directive::{Width, size_of};
 use crate::fault::{LineFault, Why};
-use mach_base::{Kind, Segment};
-use std::alloc::AllocError;
+use mach_base::{Kind, OutOfMemory, Segment};
 
 /// A segment with the bytes that were put into it so far.
 #[derive(Drop)]
@@ -32,7 +31,15 @@ pub fn begin(blocks: &mut Vec<Block>, segment: Segment) -> Result<(), LineFault>
         return Err(LineFault::Refused(Why::Order));
     }
     let bytes = Vec::new(*blocks.allocator());
-    blocks.push(Block { segment, bytes })?;
+    push(blocks, Block { segment, bytes })?;
+    Ok(())
+}
+
+/// Appends a block.
+fn push(blocks: &mut Vec<Block>, block: Block) -> Result<(), OutOfMemory>
+    ensures { OnOk result (blocks.new.items ≡ blocks.old.items ++ block ∷ []) }
+{
+    blocks.push(block)?;
     Ok(())
 }
 
@@ -72,12 +79,12 @@ pub fn put(blocks: &mut Vec<Block>, width: Width, values: &[u64]) -> Result<(), 
         return Err(LineFault::Refused(Why::Overrun));
     }
     push_values(&mut latest.bytes, width, values)?;
-    blocks.push(latest)?;
+    push(blocks, latest)?;
     Ok(())
 }
 
 /// Appends the bytes of the values, the lowest of each first.
-fn push_values(out: &mut Vec<u8>, width: Width, values: &[u64]) -> Result<(), AllocError>
+fn push_values(out: &mut Vec<u8>, width: Width, values: &[u64]) -> Result<(), OutOfMemory>
     ensures { OnOk result (out.new.items ≡ out.old.items ++ flat_map (value_bytes width) values.now) }
 {
     for value in values {
@@ -86,11 +93,12 @@ fn push_values(out: &mut Vec<u8>, width: Width, values: &[u64]) -> Result<(), Al
     Ok(())
 }
 
-fn push_value(out: &mut Vec<u8>, width: Width, value: u64) -> Result<(), AllocError>
+fn push_value(out: &mut Vec<u8>, width: Width, value: u64) -> Result<(), OutOfMemory>
     ensures { OnOk result (out.new.items ≡ out.old.items ++ value_bytes width value) }
 {
     let bytes = value.to_le_bytes();
-    out.extend_from_slice(&bytes[..size_of(width)])
+    out.extend_from_slice(&bytes[..size_of(width)])?;
+    Ok(())
 }
 
 /// Whether a segment holds text.

@@ -5,7 +5,6 @@ ghost use Rattle.img_text.specs.declared.fault.ImageFault.TheVariants as image_f
 ghost use Rattle.img_text.specs.declared.fault.LineFault.TheVariants.{Refused, NoMemory};
 
 use mach_base::{OutOfMemory, What};
-use std::alloc::{AllocError, AllocFailed};
 use thiserror::Error;
 
 /// What is wrong with a line of an image file.
@@ -23,7 +22,7 @@ pub enum Why {
     Order,
     /// Values pass the end of their segment, or no segment has begun.
     Overrun,
-    /// A hart number is above 15, or its start is given twice.
+    /// A hart number is above all that a machine may have, or its start is given twice.
     Hart,
     /// The file has no text segment; the line is one past the last.
     NoText,
@@ -39,22 +38,6 @@ pub enum ImageFault {
     TooLarge { what: What, size: u64 },
     #[error("out of memory")]
     OutOfMemory,
-}
-
-impl From<AllocError> for ImageFault {
-    ghost from_gives = { λ _ e. e ≡ image_faults.OutOfMemory };
-
-    fn from(_error: AllocError) -> ImageFault {
-        ImageFault::OutOfMemory
-    }
-}
-
-impl<T: Drop> From<AllocFailed<T>> for ImageFault {
-    ghost from_gives = { λ _ e. e ≡ image_faults.OutOfMemory };
-
-    fn from(_error: AllocFailed<T>) -> ImageFault {
-        ImageFault::OutOfMemory
-    }
 }
 
 impl From<OutOfMemory> for ImageFault {
@@ -80,18 +63,10 @@ impl From<Why> for LineFault {
     }
 }
 
-impl From<AllocError> for LineFault {
+impl From<OutOfMemory> for LineFault {
     ghost from_gives = { λ _ e. e ≡ NoMemory };
 
-    fn from(_error: AllocError) -> LineFault {
-        LineFault::NoMemory
-    }
-}
-
-impl<T: Drop> From<AllocFailed<T>> for LineFault {
-    ghost from_gives = { λ _ e. e ≡ NoMemory };
-
-    fn from(_error: AllocFailed<T>) -> LineFault {
+    fn from(_error: OutOfMemory) -> LineFault {
         LineFault::NoMemory
     }
 }

@@ -1,18 +1,21 @@
 //! An image of memory, and where its harts start.
 
 use crate::filling::with_zeros;
-use mach_base::{Hart, OutOfMemory, Segment};
+use mach_base::{Hart, MOST_HARTS, OutOfMemory, Segment};
 use std::alloc::Global;
 use std::marker::Model;
 
-/// An image: segments in order, each with its bytes, and for each hart number from 0 to 15 the pc and the sp to start
-/// with, or none. Its segments keep the rules and the limits of docs/formats.md.
+/// As many starts as a machine may have harts.
+pub const HARTS: usize = MOST_HARTS as usize;
+
+/// An image: segments in order, each with its bytes, and for each hart number below `MOST_HARTS` the pc and the sp to
+/// start with, or none. Its segments keep the rules and the limits of docs/formats.md.
 #[derive(Drop)]
 pub struct Image {
     segments: Vec<Segment>,
     contents: Vec<Vec<u8>>,
-    pcs: [Option<u64>; 16],
-    sps: [Option<u64>; 16],
+    pcs: [Option<u64>; HARTS],
+    sps: [Option<u64>; HARTS],
 }
 
 impl Model for Image {
@@ -30,21 +33,22 @@ impl Model for Image {
 impl Image {
     ghost use Rattle.std.specs.Prelude.{◌≡◌, ◌+◌, ◌<◌, ◌≤◌, [], ◌∷◌, ◌++◌, length, map, replicate, OnOk, OnErr, Some, None, slice_set, slice_index_or, slice_get, option_map};
     ghost use Rattle.mach_base.specs.Machine.{AreSegments};
+    ghost use Rattle.mach_base.specs.declared.limits.TheConstants.{MOST_HARTS};
     ghost use Rattle.mem_map.specs.Parts.{segments_of};
     ghost use Rattle.img_text.specs.Image.{ImageRecord, IsImage, filled};
 
     /// An image without a segment and without starts. It takes no memory.
     pub fn new(alloc: Global) -> Image
-        ensures { result ≡ record { parts = []; pcs = replicate 16 None; sps = replicate 16 None } }
+        ensures { result ≡ record { parts = []; pcs = replicate MOST_HARTS None; sps = replicate MOST_HARTS None } }
     {
-        Image::with_starts(alloc, [None; 16], [None; 16])
+        Image::with_starts(alloc, [None; HARTS], [None; HARTS])
     }
 
     /// An image without a segment and with these starts.
     pub(crate) fn with_starts(
         alloc: Global,
-        pcs: [Option<u64>; 16],
-        sps: [Option<u64>; 16],
+        pcs: [Option<u64>; HARTS],
+        sps: [Option<u64>; HARTS],
     ) -> Image
         ensures { result ≡ record { parts = []; pcs = pcs; sps = sps } }
     {
@@ -79,7 +83,7 @@ impl Image {
     }
 
     /// The bytes of the segment of this index, one for each of its addresses.
-    pub fn contents(&self, i: usize) -> &[u8]
+    pub(crate) fn contents(&self, i: usize) -> &[u8]
         requires { i < length self.now.parts }
         ensures { option_map (λ p. p.bytes) (slice_get self.now.parts i) ≡ Some result.now }
     {
@@ -87,19 +91,27 @@ impl Image {
     }
 
     /// Where the hart starts, if that is given.
+    #[tactic(auto, using(crate::proofs::Harts::start_past))]
     pub fn pc(&self, h: Hart) -> Option<u64>
-        requires { h.0 < 16 }
         ensures { result ≡ slice_index_or self.now.pcs h.0 None }
     {
-        self.pcs[usize::from(h.0)]
+        if usize::from(h.0) < HARTS {
+            self.pcs[usize::from(h.0)]
+        } else {
+            None
+        }
     }
 
     /// The stack pointer with which the hart starts, if that is given.
+    #[tactic(auto, using(crate::proofs::Harts::start_past))]
     pub fn sp(&self, h: Hart) -> Option<u64>
-        requires { h.0 < 16 }
         ensures { result ≡ slice_index_or self.now.sps h.0 None }
     {
-        self.sps[usize::from(h.0)]
+        if usize::from(h.0) < HARTS {
+            self.sps[usize::from(h.0)]
+        } else {
+            None
+        }
     }
 
     /// Where each hart starts.
@@ -118,7 +130,7 @@ impl Image {
 
     /// The hart starts at this address.
     pub fn set_pc(&mut self, h: Hart, addr: u64)
-        requires { h.0 < 16 }
+        requires { h.0 < MOST_HARTS }
         ensures { self.new ≡ record self.old { pcs = slice_set self.old.pcs h.0 (Some addr) } }
     {
         self.pcs[usize::from(h.0)] = Some(addr);
@@ -126,7 +138,7 @@ impl Image {
 
     /// The hart starts with this stack pointer.
     pub fn set_sp(&mut self, h: Hart, addr: u64)
-        requires { h.0 < 16 }
+        requires { h.0 < MOST_HARTS }
         ensures { self.new ≡ record self.old { sps = slice_set self.old.sps h.0 (Some addr) } }
     {
         self.sps[usize::from(h.0)] = Some(addr);

@@ -30,7 +30,7 @@ pub fn line_of(line: &[u8]) -> Result<Option<(Directive, Values)>, Why>
     Ok(Some((directive, values)))
 }
 
-/// Whether so many words stand in the line.
+/// Whether the line has so many words.
 fn has_count(line: &[u8], least: usize, most: usize) -> bool
     ensures { result ≡ has_count least most (words_of line.now) }
 {

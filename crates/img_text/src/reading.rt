@@ -1,30 +1,32 @@
 //! Reading of an image file.
 
-ghost use Rattle.std.specs.Prelude.{◌≡◌, ◌≤◌, ◌<◌, [], length, map, replicate, None, IfOk};
+ghost use Rattle.std.specs.Prelude.{◌≡◌, ◌≤◌, ◌<◌, [], length, map, IfOk};
 ghost use Rattle.std.specs.List.{AllByRecursion};
 ghost use Rattle.mach_base.specs.Machine.{AreSegments};
 ghost use Rattle.mach_base.specs.Lines.{lines_of, words_of};
 ghost use Rattle.mem_map.specs.Parts.{segments_of};
 ghost use Rattle.img_text.specs.Image.{filled};
 ghost use Rattle.img_text.specs.Directives.{least_of};
-ghost use Rattle.img_text.specs.Reading.{AreSound, IsShort, Leaves, Gives, start, applied, numbered, read_line, read_lines, whole_image, is_header, image_of};
+ghost use Rattle.img_text.specs.Reading.{AreSound, IsShort, Leaves, Gives, start, applied, numbered, read_line, read_lines, whole_image, no_starts, is_header, image_of};
 ghost use Rattle.img_text.specs.Blocks.{parts_of, latest_first};
 ghost use Rattle.img_text.specs.Reader.{draft_of};
 
 use crate::blocks::{Block, begin, has_text, memory_size, put};
 use crate::directive::Directive;
 use crate::fault::{ImageFault, LineFault, Why};
-use crate::image::Image;
+use crate::image::{HARTS, Image};
 use crate::line::line_of;
-use mach_base::{OutOfMemory, Segment, What, next_line, next_word};
+use mach_base::{
+    MOST_HARTS, MOST_MEMORY, MOST_SEGMENTS, OutOfMemory, Segment, What, next_line, next_word,
+};
 use std::alloc::Global;
 
 /// What the lines so far give.
 #[derive(Drop)]
 pub struct Reader {
     parts: Vec<Block>,
-    pcs: [Option<u64>; 16],
-    sps: [Option<u64>; 16],
+    pcs: [Option<u64>; HARTS],
+    sps: [Option<u64>; HARTS],
 }
 
 /// Reads an image file. `Bad` names the first faulty line, counted from 1, and what is wrong with it, one past the
@@ -64,12 +66,12 @@ fn is_header(line: &[u8]) -> bool
 
 /// Reads the lines from the second on.
 fn read_lines(alloc: Global, text: &[u8]) -> Result<Image, ImageFault>
-    ensures { Gives result (read_lines 2 (record { parts = []; pcs = replicate 16 None; sps = replicate 16 None }) (lines_of text.now)) }
+    ensures { Gives result (read_lines 2 (record { parts = []; pcs = no_starts; sps = no_starts }) (lines_of text.now)) }
 {
     let mut reader = Reader {
         parts: Vec::new(alloc),
-        pcs: [None; 16],
-        sps: [None; 16],
+        pcs: [None; HARTS],
+        sps: [None; HARTS],
     };
     let mut line = 2;
     let mut left = text;
@@ -133,10 +135,10 @@ fn apply(reader: &mut Reader, directive: Directive, values: &[u64]) -> Result<()
 }
 
 /// Gives a start to a hart number that has none.
-fn start(starts: &mut [Option<u64>; 16], hart: u64, addr: u64) -> Result<(), LineFault>
+fn start(starts: &mut [Option<u64>; HARTS], hart: u64, addr: u64) -> Result<(), LineFault>
     ensures { Leaves result starts.new (start hart addr starts.old) }
 {
-    if hart >= 16 || starts[hart as usize].is_some() {
+    if hart >= u64::from(MOST_HARTS) || starts[hart as usize].is_some() {
         return Err(LineFault::Refused(Why::Hart));
     }
     starts[hart as usize] = Some(addr);
@@ -149,8 +151,8 @@ fn whole_image(
     alloc: Global,
     line: u64,
     blocks: &[Block],
-    pcs: [Option<u64>; 16],
-    sps: [Option<u64>; 16],
+    pcs: [Option<u64>; HARTS],
+    sps: [Option<u64>; HARTS],
 ) -> Result<Image, ImageFault>
     requires { AreSound (latest_first blocks.now) }
     ensures { Gives result (whole_image line (parts_of blocks.now) pcs sps) }
@@ -160,12 +162,12 @@ fn whole_image(
         return Err(ImageFault::Bad { line, why });
     }
     let count = blocks.len() as u64;
-    if count > 64 {
+    if blocks.len() > MOST_SEGMENTS {
         let what = What::Segments;
         return Err(ImageFault::TooLarge { what, size: count });
     }
     let size = memory_size(blocks);
-    if size > 16_777_216 {
+    if size > MOST_MEMORY {
         let what = What::Memory;
         return Err(ImageFault::TooLarge { what, size });
     }
@@ -177,8 +179,8 @@ fn whole_image(
 fn build(
     alloc: Global,
     blocks: &[Block],
-    pcs: [Option<u64>; 16],
-    sps: [Option<u64>; 16],
+    pcs: [Option<u64>; HARTS],
+    sps: [Option<u64>; HARTS],
 ) -> Result<Image, OutOfMemory>
     requires rules { AreSegments (segments_of (parts_of blocks.now)) }
     requires short { AllByRecursion IsShort (parts_of blocks.now) }

@@ -20,7 +20,6 @@ pub struct Booted {
 /// The memory of the image, and the contexts of so many harts at the start: each at the pc that the image gives it, else
 /// at the first text segment, and with the sp that the image gives it, else 0 (docs/formats.md, "Images").
 pub fn boot(alloc: Global, image: &Image, harts: u8) -> Result<Booted, OutOfMemory>
-    requires { harts ≤ 16 }
     ensures memory { IfOk result (λ booted. booted.map ≡ memory_of image.now.parts) }
     ensures contexts { IfOk result (λ booted. booted.ctxs.items ≡ first_contexts image.now harts) }
 {
@@ -30,7 +29,6 @@ pub fn boot(alloc: Global, image: &Image, harts: u8) -> Result<Booted, OutOfMemo
 }
 
 fn boot_contexts(alloc: Global, image: &Image, harts: u8) -> Result<Vec<Context>, OutOfMemory>
-    requires { harts ≤ 16 }
     ensures { IfOk result (λ ctxs. ctxs.items ≡ first_contexts image.now harts) }
 {
     let mut ctxs = Vec::with_capacity(alloc, usize::from(harts))?;
@@ -54,7 +52,6 @@ fn boot_memory(alloc: Global, image: &Image) -> Result<Map, OutOfMemory>
 
 /// The context with which a hart starts.
 fn first_context(image: &Image, hart: Hart) -> Context
-    requires { hart.0 < 16 }
     ensures { result ≡ first_context image.now hart.0 }
 {
     let pc = match image.pc(hart) {

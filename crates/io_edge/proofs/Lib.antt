@@ -1,2 +1,4 @@
 pub mod FirstOf
 pub mod Counts
+pub mod Slots
+pub mod Stores

@@ -1,5 +1,5 @@
 -- What a shelf and a sink tell of their bytes and of their faults.
-use Rattle.std.specs.Prelude.{◌≡◌, ℕ, ◌-◌, ◌^◌, ◌<◌, ◌≤◌, ◌⊎◌, List, [], ◌++◌, length, take, Option, Some, None, unwrap_or, codes}
+use Rattle.std.specs.Prelude.{◌≡◌, ◌≢◌, ℕ, ◌-◌, ◌^◌, ◌<◌, ◌≤◌, ◌⊎◌, List, [], ◌++◌, length, take, Option, Some, None, unwrap_or, codes}
 use Rattle.std.specs.Ordering.{nat_cmp}
 use Rattle.std.specs.Cmp.Lexicographic.{slice_cmp}
 use Rattle.std.specs.FinMap.{FinMap, get}
@@ -26,6 +26,29 @@ HasRisen before after = (before < after) ⊎ (after ≡ last_count)
 abbrev pub IsTold : Option FileMap → List ℕ → List ℕ → Type 0
 IsTold None name bytes = Unit {0}
 IsTold (Some files) name bytes = bytes ≡ bytes_of files name
+
+-- there is room for a write of this size, where room is for this many bytes at most, or none
+abbrev pub HasRoom : Option ℕ → ℕ → Type 0
+HasRoom None size = ⊥
+HasRoom (Some most) size = size ≤ most
+
+-- the most bytes of a write for which there is room, by name
+abbrev pub Rooms : Type 0
+Rooms = List ℕ → Option ℕ
+
+-- under every name there is room for each size for which there was
+abbrev pub KeepsRoom : Rooms → Rooms → Type 0
+KeepsRoom before after = (name : List ℕ) (size : ℕ) → HasRoom (before name) size → HasRoom (after name) size
+
+-- the same under every name but this one
+abbrev pub KeepsOtherRoom : List ℕ → Rooms → Rooms → Type 0
+KeepsOtherRoom name before after = (other : List ℕ) (size : ℕ) → other ≢ name → HasRoom (before other) size → HasRoom (after other) size
+
+-- where the shelf tells its files, every name but this one keeps its bytes
+abbrev pub KeepsOthers : List ℕ → Option FileMap → Option FileMap → Type 0
+KeepsOthers name None after = Unit {0}
+KeepsOthers name (Some before) after =
+    (files : FileMap) × (after ≡ Some files) × ((other : List ℕ) → other ≢ name → get files other ≡ get before other)
 
 -- where the sink tells what it took, it took some first part of the bytes
 abbrev pub HasTakenPart : Option (List ℕ) → List ℕ → Option (List ℕ) → Type 0

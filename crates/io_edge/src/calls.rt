@@ -28,12 +28,19 @@ impl CallCounter {
         CallCounter { made: 0, failing }
     }
 
+    /// Whether the next call is to fail.
+    pub fn next_fails(&self) -> bool
+        ensures { result ≡ next_fails self.now }
+    {
+        self.failing.contains(&self.made)
+    }
+
     /// Counts one more call, and says whether it is to fail.
     pub fn count_one(&mut self) -> bool
         ensures fails { result ≡ next_fails self.old }
         ensures counted { self.new ≡ after_call self.old }
     {
-        let fails = self.failing.contains(&self.made);
+        let fails = self.next_fails();
         self.made = self.made.saturating_add(1);
         fails
     }

@@ -13,6 +13,7 @@
 
 mod calls;
 mod dir_shelf;
+mod files;
 mod lookup;
 mod mem_shelf;
 mod mem_sink;
@@ -20,6 +21,8 @@ mod named;
 mod out_sink;
 mod shelf;
 mod sink;
+mod slot;
+mod store;
 mod sure;
 #[cfg(test)]
 mod tests;

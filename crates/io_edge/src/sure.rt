@@ -1,9 +1,9 @@
 ghost use Rattle.std.specs.Prelude.{◌≡◌, [], Some};
 ghost use Rattle.std.specs.Option.{option_copied};
-ghost use Rattle.std.specs.FinMap.{get};
+ghost use Rattle.std.specs.FinMap.{empty, get};
 
-use crate::lookup::bytes_of_name;
 use crate::mem_sink::append;
+use crate::store::Store;
 use crate::{Failed, Named, ReadFail, Shelf, Sink};
 use mach_base::OutOfMemory;
 use std::alloc::Global;
@@ -12,19 +12,17 @@ use std::marker::Model;
 /// A shelf in memory that doesn't fail. A name that isn't there reads as no bytes.
 #[derive(Debug, Drop)]
 pub struct SureShelf {
-    alloc: Global,
-    files: Vec<Named>,
+    store: Store,
 }
 
 impl Model for SureShelf {
-    ghost use Rattle.io_edge.specs.Edge.{FileMap};
-    ghost use Rattle.io_edge.specs.Memory.{coded_file_map, file_map};
+    ghost use Rattle.io_edge.specs.Memory.{StoreState, coded_store};
 
-    ghost Value = { FileMap };
+    ghost Value = { StoreState };
 
-    ghost coded = { coded_file_map };
+    ghost coded = { coded_store };
 
-    ghost view = { λ s. file_map s.files.items };
+    ghost view = { λ s. s.store };
 }
 
 impl SureShelf {
@@ -32,27 +30,41 @@ impl SureShelf {
 
     /// A shelf of these files. Of several files of one name the first counts. It takes no memory.
     pub fn new(alloc: Global, files: Vec<Named>) -> SureShelf
-        ensures { result ≡ file_map files.items }
+        ensures files { result.files ≡ file_map files.items }
+        ensures rooms { result.rooms ≡ empty }
     {
-        SureShelf { alloc, files }
+        SureShelf {
+            store: Store::new(alloc, files),
+        }
     }
 
     /// The bytes of a name; None exactly where it isn't there.
     pub fn bytes(&self, name: &str) -> Option<&[u8]>
-        ensures { option_copied result ≡ get self.now name.now }
+        ensures { option_copied result ≡ get self.now.files name.now }
     {
-        bytes_of_name(self.files.as_slice(), name.as_bytes())
+        self.store.bytes(name.as_bytes())
     }
 }
 
 impl Shelf for SureShelf {
-    ghost contents = { λ s. Some s };
+    ghost contents = { λ s. Some s.files };
 
     ghost faults = { λ _. 0 };
 
+    ghost room = { λ s. get s.rooms };
+
     fn read(&mut self, alloc: Global, name: &str) -> Result<Vec<u8>, ReadFail> {
-        let bytes = bytes_of_name(self.files.as_slice(), name.as_bytes()).unwrap_or(&[]);
+        let bytes = self.store.bytes(name.as_bytes()).unwrap_or(&[]);
         Ok(Vec::from_slice(alloc, bytes)?)
+    }
+
+    fn reserve(&mut self, name: &str, size: usize) -> Result<(), OutOfMemory> {
+        self.store.reserve(name.as_bytes(), size)
+    }
+
+    fn write(&mut self, name: &str, bytes: &[u8]) -> Result<(), Failed> {
+        self.store.write(name.as_bytes(), bytes);
+        Ok(())
     }
 }
 

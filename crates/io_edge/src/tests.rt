@@ -44,13 +44,40 @@ fn mem_shelf_fails_at_its_calls_and_at_missing_names(rt: HostRuntime) -> Result<
 }
 
 #[test]
+fn mem_shelf_writes_where_no_call_is_to_fail(rt: HostRuntime) -> Result<(), Fail> {
+    let failing = [1].to_vec(rt.alloc())?;
+    let mut shelf = MemShelf::new(rt.alloc(), files(rt.alloc())?, failing);
+    let table: [(&str, &[u8], bool, Option<&[u8]>); 5] = [
+        ("a", b"three", true, Some(b"three")),
+        ("d", b"new", false, None),
+        ("d", b"new", true, Some(b"new")),
+        ("a", b"", true, Some(b"")),
+        ("d", b"newer", true, Some(b"newer")),
+    ];
+    for (name, bytes, ok, want) in table {
+        shelf.reserve(name, bytes.len())?;
+        assert_eq!(rt; shelf.write(name, bytes).is_ok(), ok);
+        assert_eq!(rt; shelf.bytes(name), want);
+    }
+    assert_eq!(rt; shelf.bytes("b"), Some(b"".as_slice()));
+    assert_eq!(rt;
+        shelf.read(rt.alloc(), "d")?.as_slice(),
+        b"newer".as_slice()
+    );
+    Ok(())
+}
+
+#[test]
 fn sure_shelf_reads_a_missing_name_as_no_bytes(rt: HostRuntime) -> Result<(), Fail> {
     let mut shelf = SureShelf::new(rt.alloc(), files(rt.alloc())?);
     for (name, want) in [("a", b"one".as_slice()), ("b", b""), ("c", b"")] {
         assert_eq!(rt; shelf.read(rt.alloc(), name)?.as_slice(), want);
     }
-    assert_eq!(rt; shelf.bytes("a"), Some(b"one".as_slice()));
+    shelf.reserve("c", 5)?;
     assert_eq!(rt; shelf.bytes("c"), None);
+    assert_eq!(rt; shelf.write("c", b"three"), Ok(()));
+    assert_eq!(rt; shelf.bytes("c"), Some(b"three".as_slice()));
+    assert_eq!(rt; shelf.bytes("a"), Some(b"one".as_slice()));
     Ok(())
 }
 

@@ -23,7 +23,7 @@ first_empty places = position is_none places
 abbrev pub first_enabled : ℕ → List (Option Place) → Option ℕ
 first_enabled addr places = position (is_enabled_at addr) places
 
--- what stands in the place of this number; nothing where there is no such place
+-- what is in the place of this number; nothing where there is no such place
 abbrev pub place_at : List (Option Place) → ℕ → Option Place
 place_at places i = slice_index_or places i None
 

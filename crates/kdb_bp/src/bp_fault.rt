@@ -7,7 +7,7 @@ pub enum BpFault {
     NotText,
     /// A place has the address.
     Duplicate,
-    /// All sixteen places are set.
+    /// All places are set.
     TooMany,
     /// The place is empty, or there is none of that number.
     NotFound,

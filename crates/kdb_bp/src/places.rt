@@ -1,11 +1,15 @@
-ghost use Rattle.std.specs.Prelude.{◌≡◌, ◌≢◌, ◌↔◌, ◌<◌, Ok, Err, None, IfOk, OnOk, OnErr, IfErr, replicate, slice_set};
+ghost use Rattle.std.specs.Prelude.{◌≡◌, ◌≢◌, ◌↔◌, ◌<◌, Ok, Err, None, IfOk, OnOk, OnErr, IfErr, length, replicate, slice_set};
+ghost use Rattle.mach_base.specs.declared.limits.TheConstants.{PLACES};
 ghost use Rattle.kdb_bp.specs.declared.bp_fault.BpFault.TheVariants.{NotFound};
 ghost use Rattle.kdb_bp.specs.Breaks.{first_enabled, place_at, added, with_place, switched};
 
 use crate::BpFault;
 use crate::search::{first_empty, first_enabled, has};
-use mach_base::Peek;
+use mach_base::{PLACES, Peek};
 use std::marker::Model;
+
+/// How many places there are.
+pub const COUNT: usize = PLACES as usize;
 
 /// A place that is set.
 #[derive(Clone, Copy, Debug, PartialEq, Eq)]
@@ -26,31 +30,41 @@ impl Model for Place {
     ghost inverse = { λ p. record { addr = p.addr; enabled = p.enabled } };
 }
 
-/// The sixteen places.
+/// The places, each empty or set.
 #[derive(Clone, Copy, Debug, PartialEq, Eq)]
 pub struct Breaks {
-    places: [Option<Place>; 16],
+    places: [Option<Place>; COUNT],
 }
 
 impl Model for Breaks {
     ghost use Rattle.std.specs.Prelude.{◌≡◌, List, length, Option};
     ghost use Rattle.mach_base.specs.Machine.{Place as PlaceRecord};
+    ghost use Rattle.mach_base.specs.declared.limits.TheConstants.{PLACES};
 
     ghost Value = { List (Option PlaceRecord) };
 
     ghost view = { λ b. b.places };
 
-    ghost invariant = { λ b. length b.places ≡ 16 };
+    ghost invariant = { λ b. length b.places ≡ PLACES };
 
     ghost inverse = { λ b. record { places = b } };
 }
 
 impl Breaks {
-    /// Sixteen empty places.
+    /// All places empty.
     pub fn new() -> Breaks
-        ensures { result ≡ replicate 16 None }
+        ensures { result ≡ replicate PLACES None }
     {
-        Breaks { places: [None; 16] }
+        Breaks {
+            places: [None; COUNT],
+        }
+    }
+
+    /// There are always as many places. The call does nothing; its contract says so to callers.
+    pub fn keeps_limits(&self)
+        ensures { length self.now ≡ PLACES }
+    {
+        let _places = &self.places;
     }
 
     /// The place of a number; None exactly where it is empty or there is none of that number.

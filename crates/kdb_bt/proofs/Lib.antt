@@ -1,4 +1,3 @@
-pub mod Chain
 pub mod Words
-pub mod Bytes
+pub mod Chain
 pub mod Longest

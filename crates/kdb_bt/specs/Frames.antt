@@ -1,32 +1,27 @@
 -- The frames of a hart, as a chain of frame pointers in memory has them (RISC-V calling convention, "Frame Pointer
 -- Convention").
-use Rattle.std.specs.Prelude.{ℕ, zero, suc, ◌+◌, ◌-◌, ◌*◌, ◌%◌, ◌==◌, ◌&&◌, List, [], ◌∷◌, slice_index, Option, Some, None, nat_lt, nat_le, if◌then◌else◌}
-use Rattle.mach_base.specs.Machine.{Memory, Context, byte_at}
+use Rattle.std.specs.Prelude.{ℕ, zero, suc, ◌-◌, ◌%◌, ◌==◌, ◌&&◌, List, [], ◌∷◌, slice_index, Option, Some, None, nat_lt, nat_le, if◌then◌else◌}
+use Rattle.mach_base.specs.Machine.{Memory, Context}
+use Rattle.mach_base.specs.Bytes.{all_bytes, is_mapped, number_in}
 use Rattle.kdb_bt.specs.declared.frame.Frame.{Frame}
 
--- a byte with the number of the bytes behind it, if both are there
-abbrev pub with_byte : Option ℕ → Option ℕ → Option ℕ
-with_byte None rest = None
-with_byte (Some b) None = None
-with_byte (Some b) (Some rest) = Some (b + 256 * rest)
+-- the number that so many bytes from the address on spell, if each of them is mapped
+unfoldable pub number_at : Memory → ℕ → ℕ → Option ℕ
+number_at m addr count = if all_bytes (is_mapped m) addr count then Some (number_in m addr count) else None
 
--- the number that so many bytes from the address on spell, the lowest first, if each of them is mapped
-abbrev pub number_at : Memory → ℕ → ℕ → Option ℕ
-number_at m addr zero = Some 0
-number_at m addr (suc n) = with_byte (byte_at m addr) (number_at m (addr + 1) n)
-
+-- a frame of both of its words, if they are there
 abbrev pub both_words : Option ℕ → Option ℕ → Option Frame
 both_words None pointer = None
 both_words (Some address) None = None
 both_words (Some address) (Some pointer) = Some (record { return_address = address; caller = pointer })
 
--- What stands in the 16 bytes below a frame pointer, the return address above the caller's frame pointer; none where the
+-- What is in the 16 bytes below a frame pointer, the return address above the caller's frame pointer; none where the
 -- frame pointer is no multiple of 8 or below 16, or one of the bytes isn't mapped.
 unfoldable pub frame_at : Memory → ℕ → Option Frame
 frame_at m pointer =
     if (pointer % 8 == 0) && nat_le 16 pointer then both_words (number_at m (pointer - 8) 8) (number_at m (pointer - 16) 8) else None
 
--- the return address of a frame, and those behind it where the caller's frame pointer is above this one; a return address
+-- the return address of a frame, and those after it where the caller's frame pointer is above this one; a return address
 -- of 0 ends the chain
 abbrev pub from_frame : ℕ → Option Frame → (ℕ → List ℕ) → List ℕ
 from_frame pointer None rest = []

@@ -5,7 +5,7 @@ ghost use Rattle.kdb_bt.specs.Frames.{number_at, frame_at};
 
 use mach_base::Peek;
 
-/// What stands below a frame pointer: the address to which the call returns, and the caller's frame pointer.
+/// What is below a frame pointer: the address to which the call returns, and the caller's frame pointer.
 #[derive(Clone, Copy, Debug, PartialEq, Eq)]
 pub struct Frame {
     pub return_address: u64,
@@ -28,7 +28,8 @@ pub fn frame_at<P: Peek>(mem: &P, pointer: u64) -> Option<Frame>
     })
 }
 
-/// The number that so many bytes spell, the lowest first; None where one of them isn't mapped.
+/// The little-endian number of so many bytes; None where one of them isn't mapped.
+#[tactic(auto, using(crate::proofs::Words::numbers))]
 fn number_at<P: Peek>(mem: &P, addr: u64, count: u8) -> Option<u64>
     requires few { count ≤ 8 }
     requires within { addr + count < 2 ^ 64 }

@@ -1,6 +1,6 @@
 //! The frames of a hart: where it is, and through which calls it came there.
 //!
-//! - A *frame pointer* is an address in x8, the register `s0`. In the 16 bytes below it stand the caller's frame pointer
+//! - A *frame pointer* is an address in x8, the register `s0`. In the 16 bytes below it are the caller's frame pointer
 //!   and, above that, the *return address*.
 //! - A *frame* is printed as its number, from 0, and its address: first the hart's pc, then one return address after the
 //!   other, as the frame pointers lead from caller to caller. `specs/Frames.antt` says where the chain ends.

@@ -1,7 +1,11 @@
+pub mod Apart
 pub mod Gathered
-pub mod Kept
 pub mod Keeps
+pub mod Limits
 pub mod Places
 pub mod Printed
+pub mod RefusedLines
 pub mod Runs
+pub mod Steps
 pub mod Usages
+pub mod Walk

@@ -1,4 +1,4 @@
--- Where a byte stands in a word.
+-- The place of a byte in a word.
 use Rattle.std.proofs.Common.{◌≡◌, ℕ, ◌<◌, Bool, false, List, length, Option, None, Some, is_none, refl, sym}
 use Rattle.std.specs.Prelude.{MatchOption, position}
 use Rattle.std.proofs.lemmas.List.Quantifiers.{position-Some}

@@ -5,7 +5,7 @@ use Rattle.std.proofs.lemmas.List.{take_more, take_all}
 use Rattle.std.proofs.lemmas.Option.{slice_get_within, get_or_from_slice_get, slice_get_cases, slice_get_past}
 use Rattle.mach_base.specs.Machine.{Macro as MacroRecord}
 use Rattle.kdb_macro.specs.Macros.{line_in}
-use Rattle.kdb_cmd.specs.LineState.{Answer}
+use Rattle.kdb_cmd.specs.Answer.{Answer}
 use Rattle.kdb_cmd.specs.MacroLines.{lines_in}
 
 -- a line of a macro is one of its lines

@@ -1,7 +1,8 @@
 -- The commands about breakpoints.
-use Rattle.std.specs.Prelude.{ℕ, zero, suc, ◌==◌, Bool, true, false, List, [], ◌++◌, length, codes, nat_le, slice_set, unwrap_or, Option, Some, None, is_none, Result, Ok, Err, if◌then◌else◌}
+use Rattle.std.specs.Prelude.{ℕ, zero, suc, ◌==◌, Bool, true, false, List, [], ◌++◌, length, codes, nat_lt, slice_set, unwrap_or, Option, Some, None, is_none, Result, Ok, Err, if◌then◌else◌}
 use Rattle.std.specs.Str.{bytes_eq}
-use Rattle.mach_base.specs.Machine.{Place, Symbol}
+use Rattle.mach_base.specs.declared.limits.TheConstants.{PLACES}
+use Rattle.mach_base.specs.Machine.{Place, Symbol, LineState}
 use Rattle.mach_base.specs.Number.{dec_text, number_of}
 use Rattle.mach_base.specs.Texts.{newline}
 use Rattle.mach_base.specs.declared.number.NumFault.{NumFault}
@@ -11,20 +12,15 @@ use Rattle.kdb_bp.specs.declared.bp_fault.BpFault.TheVariants as fault
 use Rattle.kdb_bp.specs.Breaks.{place_at, added, with_place, switched}
 use Rattle.kdb_cmd.specs.declared.diagnostics.Diagnostic.{Diagnostic}
 use Rattle.kdb_cmd.specs.declared.diagnostics.Diagnostic.TheVariants as diagnostic
-use Rattle.kdb_cmd.specs.declared.spellings.Breaking.{Breaking}
-use Rattle.kdb_cmd.specs.declared.spellings.Breaking.TheVariants.{Bp, Bl, Mark}
-use Rattle.kdb_cmd.specs.declared.spellings.Marking.{Marking}
-use Rattle.kdb_cmd.specs.declared.spellings.Marking.TheVariants.{Clear, Disable, Enable}
+use Rattle.kdb_cmd.specs.declared.commands.Marking.{Marking}
+use Rattle.kdb_cmd.specs.declared.commands.Marking.TheVariants.{Clear, Disable, Enable}
 use Rattle.kdb_cmd.specs.declared.breakpoints.Marked.{Marked}
-use Rattle.kdb_cmd.specs.LineState.{LineState}
-use Rattle.kdb_cmd.specs.Diagnostics.{word_at}
-use Rattle.kdb_cmd.specs.Refused.{◌>>=◌}
-use Rattle.kdb_cmd.specs.Arguments.{argument}
 
 -- the places
 abbrev pub Places : Type 0
 Places = List (Option Place)
 
+-- whether a place is enabled
 abbrev pub state_word : Bool → List ℕ
 state_word enabled = if enabled then codes " enabled" else codes " disabled"
 
@@ -44,16 +40,12 @@ first_lines symbols places zero = []
 first_lines symbols places (suc n) = first_lines symbols places n ++ place_line symbols n (place_at places n)
 
 -- these lines, or the one that says that there are none
-abbrev pub lines_or_none : List ℕ → List ℕ
+unfoldable pub lines_or_none : List ℕ → List ℕ
 lines_or_none lines = if length lines == 0 then codes "No breakpoints are set" ++ newline else lines
 
 -- `bl`: the places that are set
 unfoldable pub bl_text : List Symbol → Places → List ℕ
-bl_text symbols places = lines_or_none (first_lines symbols places 16)
-
--- the places that are set are shown, and stay as they are
-abbrev pub bl_marked : LineState → Result Marked Diagnostic
-bl_marked s = Ok (record { text = bl_text s.symbols s.places; breaks = s.places })
+bl_text symbols places = lines_or_none (first_lines symbols places PLACES)
 
 -- the diagnostic of a breakpoint that isn't set at this address; a new one is never not found
 abbrev pub fault_diagnostic : ℕ → BpFault → Diagnostic
@@ -63,21 +55,16 @@ fault_diagnostic addr fault.Duplicate = diagnostic.Duplicate
 fault_diagnostic addr fault.TooMany = diagnostic.TooManyBreakpoints
 fault_diagnostic addr fault.NotFound = diagnostic.TooManyBreakpoints
 
-abbrev pub placed_at : LineState → ℕ → Result ℕ BpFault → Result Marked Diagnostic
-placed_at s addr (Ok n) = Ok (record { text = breakpoint_line s.symbols n (record { addr = addr; enabled = true }); breaks = with_place s.places n addr })
-placed_at s addr (Err why) = Err (fault_diagnostic addr why)
+-- the places with the breakpoint, or the diagnostic
+abbrev pub new_place_or_diagnostic : LineState → ℕ → Result ℕ BpFault → Result Marked Diagnostic
+new_place_or_diagnostic s addr (Ok n) = Ok (record { text = breakpoint_line s.symbols n (record { addr = addr; enabled = true }); breaks = with_place s.places n addr })
+new_place_or_diagnostic s addr (Err why) = Err (fault_diagnostic addr why)
 
--- a breakpoint more, at this address
-abbrev pub placed : LineState → ℕ → Result Marked Diagnostic
-placed s addr = placed_at s addr (added s.memory s.places addr)
+-- `bp E`: a breakpoint more, at this address
+unfoldable pub bp_marked : LineState → ℕ → Result Marked Diagnostic
+bp_marked s addr = new_place_or_diagnostic s addr (added s.memory s.places addr)
 
--- `bp [E]`
-unfoldable pub bp_marked : LineState → List (List ℕ) → Result Marked Diagnostic
-bp_marked s words =
-    if length words == 1 then bl_marked s
-    else if length words == 2 then (argument s words 1 >>= placed s)
-    else Err diagnostic.WrongArguments
-
+-- what was done to a place
 abbrev pub change_word : Marking → List ℕ
 change_word Clear = codes " cleared"
 change_word Disable = codes " disabled"
@@ -112,33 +99,26 @@ abbrev pub changed_lines : Marking → Places → ℕ → List ℕ
 changed_lines marking places zero = []
 changed_lines marking places (suc n) = changed_lines marking places n ++ line_of_change marking n (changed_at marking (changed_first marking places n) n)
 
+-- each place that is set is changed
+abbrev pub all_changed : Places → Marking → Marked
+all_changed places marking = record { text = lines_or_none (changed_lines marking places PLACES); breaks = changed_first marking places PLACES }
+
+-- the changed places, or the diagnostic
 abbrev pub changed_or : Marking → ℕ → Option Places → Result Marked Diagnostic
 changed_or marking n None = Err (diagnostic.NoBreakpoint n)
 changed_or marking n (Some places) = Ok (record { text = change_line marking n; breaks = places })
 
 -- the place of a number is changed
 abbrev pub one_changed : Places → Marking → ℕ → Result Marked Diagnostic
-one_changed places marking n = if nat_le n 15 then changed_or marking n (changed_at marking places n) else Err (diagnostic.NoBreakpoint n)
+one_changed places marking n = if nat_lt n PLACES then changed_or marking n (changed_at marking places n) else Err (diagnostic.NoBreakpoint n)
 
+-- the place of a number that is read is changed
 abbrev pub number_changed : Places → Marking → Result ℕ NumFault → Result Marked Diagnostic
 number_changed places marking (Ok n) = one_changed places marking n
 number_changed places marking (Err why) = Err (diagnostic.BadNumber 1)
 
--- the places that a word names are changed: each that is set for *, else the one of a decimal number
+-- `bc N`, `bd N`, `be N`: the places that a word names are changed: each that is set for *, else the one of a decimal number
 unfoldable pub word_changed : Places → Marking → List ℕ → Result Marked Diagnostic
 word_changed places marking word =
-    if bytes_eq word (codes "*") then Ok (record { text = changed_lines marking places 16; breaks = changed_first marking places 16 })
+    if bytes_eq word (codes "*") then Ok (all_changed places marking)
     else number_changed places marking (number_of 10 word)
-
--- `bc [N]`, `bd [N]`, `be [N]`
-unfoldable pub mark_marked : LineState → Marking → List (List ℕ) → Result Marked Diagnostic
-mark_marked s marking words =
-    if length words == 1 then bl_marked s
-    else if length words == 2 then word_changed s.places marking (word_at words 1)
-    else Err diagnostic.WrongArguments
-
--- a command about breakpoints
-unfoldable pub breakpoints_marked : LineState → Breaking → List (List ℕ) → Result Marked Diagnostic
-breakpoints_marked s Bp words = bp_marked s words
-breakpoints_marked s Bl words = if length words == 1 then bl_marked s else Err diagnostic.WrongArguments
-breakpoints_marked s (Mark marking) words = mark_marked s marking words

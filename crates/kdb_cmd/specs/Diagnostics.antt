@@ -1,96 +1,49 @@
 -- The line that says why a line is refused. docs/debugger.md, "Diagnostics", has the causes.
-use Rattle.std.specs.Prelude.{ℕ, List, [], ◌++◌, codes, slice_index_or}
+use Rattle.std.specs.Prelude.{ℕ, List, [], ◌++◌, codes}
 use Rattle.mach_base.specs.Number.{dec_text}
 use Rattle.mach_base.specs.Texts.{newline, address_text}
 use Rattle.kdb_cmd.specs.declared.diagnostics.Diagnostic.{Diagnostic}
 use Rattle.kdb_cmd.specs.declared.diagnostics.Diagnostic.TheVariants.{UnknownName, WrongArguments, BadWidth, BadRadix, UnknownCommand, TooManyVariables, TooManyBreakpoints, Duplicate, NoBreakpoint, BadRegister, BadNumber, BadAddress, NotText, BadProcessor, EnteredOn, IsHalted, BadCount, NestedMacro, ReservedName, MacroFull, UnclosedQuote, TooManyWords, BadPipe, BadName}
 use Rattle.kdb_cmd.specs.declared.diagnostics.Detail.{Detail}
 use Rattle.kdb_cmd.specs.declared.diagnostics.Detail.TheVariants.{Nothing, Word, Address, Number, Halted}
+use Rattle.kdb_cmd.specs.Words.{word_at}
 
--- the word at a place of the line; no bytes behind the last one
-abbrev pub word_at : List (List ℕ) → ℕ → List ℕ
-word_at words place = slice_index_or words place []
+-- a diagnostic's number, what is said up to the detail, and what it is about
+pub record Message : Type 0 where
+  pub number : ℕ
+  pub text : List ℕ
+  pub detail : Detail
 
--- the number of a diagnostic
-unfoldable pub number_of : Diagnostic → ℕ
-number_of (UnknownName place) = 1
-number_of WrongArguments = 2
-number_of BadWidth = 3
-number_of BadRadix = 4
-number_of UnknownCommand = 5
-number_of TooManyVariables = 6
-number_of TooManyBreakpoints = 7
-number_of Duplicate = 8
-number_of (NoBreakpoint place) = 9
-number_of (BadRegister place) = 10
-number_of (BadNumber place) = 11
-number_of (BadAddress addr) = 12
-number_of (NotText addr) = 13
-number_of (BadProcessor hart) = 14
-number_of (EnteredOn hart) = 15
-number_of (IsHalted hart) = 16
-number_of BadCount = 17
-number_of NestedMacro = 18
-number_of (ReservedName place) = 19
-number_of MacroFull = 20
-number_of UnclosedQuote = 21
-number_of TooManyWords = 22
-number_of BadPipe = 23
-number_of (BadName place) = 24
+-- the message of this number, text and detail
+abbrev pub message_with : ℕ → List ℕ → Detail → Message
+message_with number text detail = record { number = number; text = text; detail = detail }
 
--- what is said, up to the detail
-unfoldable pub message_text : Diagnostic → List ℕ
-message_text (UnknownName place) = codes "unknown name "
-message_text WrongArguments = codes "wrong number of arguments"
-message_text BadWidth = codes "bad width"
-message_text BadRadix = codes "bad radix"
-message_text UnknownCommand = codes "unknown command "
-message_text TooManyVariables = codes "too many variables"
-message_text TooManyBreakpoints = codes "too many breakpoints"
-message_text Duplicate = codes "duplicate"
-message_text (NoBreakpoint place) = codes "no breakpoint "
-message_text (BadRegister place) = codes "bad register "
-message_text (BadNumber place) = codes "bad number "
-message_text (BadAddress addr) = codes "bad address "
-message_text (NotText addr) = codes "not text "
-message_text (BadProcessor hart) = codes "bad cpu "
-message_text (EnteredOn hart) = codes "entered on cpu "
-message_text (IsHalted hart) = codes "cpu "
-message_text BadCount = codes "bad count"
-message_text NestedMacro = codes "nested macro "
-message_text (ReservedName place) = codes "reserved name "
-message_text MacroFull = codes "macro is full"
-message_text UnclosedQuote = codes "unclosed quote"
-message_text TooManyWords = codes "too many words"
-message_text BadPipe = codes "bad pipe"
-message_text (BadName place) = codes "bad name "
-
--- what it is about: a word, an address or a number
-unfoldable pub detail_of : Diagnostic → Detail
-detail_of (UnknownName place) = Word place
-detail_of WrongArguments = Nothing
-detail_of BadWidth = Nothing
-detail_of BadRadix = Nothing
-detail_of UnknownCommand = Word 0
-detail_of TooManyVariables = Nothing
-detail_of TooManyBreakpoints = Nothing
-detail_of Duplicate = Nothing
-detail_of (NoBreakpoint place) = Number place
-detail_of (BadRegister place) = Word place
-detail_of (BadNumber place) = Word place
-detail_of (BadAddress addr) = Address addr
-detail_of (NotText addr) = Address addr
-detail_of (BadProcessor hart) = Number hart
-detail_of (EnteredOn hart) = Number hart
-detail_of (IsHalted hart) = Halted hart
-detail_of BadCount = Nothing
-detail_of NestedMacro = Word 0
-detail_of (ReservedName place) = Word place
-detail_of MacroFull = Nothing
-detail_of UnclosedQuote = Nothing
-detail_of TooManyWords = Nothing
-detail_of BadPipe = Nothing
-detail_of (BadName place) = Word place
+-- the message of each diagnostic
+unfoldable pub message_of : Diagnostic → Message
+message_of (UnknownName place) = message_with 1 (codes "unknown name ") (Word place)
+message_of WrongArguments = message_with 2 (codes "wrong number of arguments") Nothing
+message_of BadWidth = message_with 3 (codes "bad width") Nothing
+message_of BadRadix = message_with 4 (codes "bad radix") Nothing
+message_of UnknownCommand = message_with 5 (codes "unknown command ") (Word 0)
+message_of TooManyVariables = message_with 6 (codes "too many variables") Nothing
+message_of TooManyBreakpoints = message_with 7 (codes "too many breakpoints") Nothing
+message_of Duplicate = message_with 8 (codes "duplicate") Nothing
+message_of (NoBreakpoint place) = message_with 9 (codes "no breakpoint ") (Number place)
+message_of (BadRegister place) = message_with 10 (codes "bad register ") (Word place)
+message_of (BadNumber place) = message_with 11 (codes "bad number ") (Word place)
+message_of (BadAddress addr) = message_with 12 (codes "bad address ") (Address addr)
+message_of (NotText addr) = message_with 13 (codes "not text ") (Address addr)
+message_of (BadProcessor hart) = message_with 14 (codes "bad cpu ") (Number hart)
+message_of (EnteredOn hart) = message_with 15 (codes "entered on cpu ") (Number hart)
+message_of (IsHalted hart) = message_with 16 (codes "cpu ") (Halted hart)
+message_of BadCount = message_with 17 (codes "bad count") Nothing
+message_of NestedMacro = message_with 18 (codes "nested macro ") (Word 0)
+message_of (ReservedName place) = message_with 19 (codes "reserved name ") (Word place)
+message_of MacroFull = message_with 20 (codes "macro is full") Nothing
+message_of UnclosedQuote = message_with 21 (codes "unclosed quote") Nothing
+message_of TooManyWords = message_with 22 (codes "too many words") Nothing
+message_of BadPipe = message_with 23 (codes "bad pipe") Nothing
+message_of (BadName place) = message_with 24 (codes "bad name ") (Word place)
 
 -- the detail as it is printed, of a line with these words
 unfoldable pub detail_text : List (List ℕ) → Detail → List ℕ
@@ -100,7 +53,11 @@ detail_text words (Address addr) = address_text addr
 detail_text words (Number number) = dec_text number
 detail_text words (Halted hart) = dec_text hart ++ codes " is halted"
 
+-- the line of a message about these words
+unfoldable pub message_line : List (List ℕ) → Message → List ℕ
+message_line words m =
+    codes "diag: " ++ (dec_text m.number ++ (codes ": " ++ (m.text ++ (detail_text words m.detail ++ newline))))
+
 -- the line of a diagnostic about these words
-unfoldable pub diagnostic_text : List (List ℕ) → Diagnostic → List ℕ
-diagnostic_text words diagnostic =
-    codes "diag: " ++ (dec_text (number_of diagnostic) ++ (codes ": " ++ (message_text diagnostic ++ (detail_text words (detail_of diagnostic) ++ newline))))
+abbrev pub diagnostic_text : List (List ℕ) → Diagnostic → List ℕ
+diagnostic_text words diagnostic = message_line words (message_of diagnostic)

@@ -1,20 +1,31 @@
 -- What the first word of a line names.
-use Rattle.std.specs.Prelude.{ℕ, ◌==◌, ◌||◌, List, length, codes, Option, Some, None, is_some, if◌then◌else◌}
-use Rattle.std.specs.Str.{bytes_eq}
+use Rattle.std.specs.Prelude.{ℕ, ◌-◌, ◌==◌, List, length, Option, Some, None, if◌then◌else◌}
 use Rattle.mach_base.specs.Machine.{Macro as MacroRecord}
 use Rattle.kdb_macro.specs.Macros.{named}
+use Rattle.kdb_cmd.specs.declared.commands.Entry.{Entry}
+use Rattle.kdb_cmd.specs.declared.commands.Entry.TheVariants as entry
 use Rattle.kdb_cmd.specs.declared.naming.Called.{Called}
-use Rattle.kdb_cmd.specs.declared.naming.Called.TheVariants.{Command, Define, Macro}
-use Rattle.kdb_cmd.specs.Diagnostics.{word_at}
-use Rattle.kdb_cmd.specs.Spellings.{command_of}
+use Rattle.kdb_cmd.specs.declared.naming.Called.TheVariants.{Nothing, Command, Define, Macro, WrongCount, Unknown}
+use Rattle.kdb_cmd.specs.Words.{word_at}
+use Rattle.kdb_cmd.specs.Table.{is_spelled, is_command, entry_of}
 
-abbrev pub macro_or_command : Option ℕ → Called
-macro_or_command None = Command
-macro_or_command (Some number) = Macro number
+abbrev pub macro_or_unknown : Option ℕ → Called
+macro_or_unknown None = Unknown
+macro_or_unknown (Some number) = Macro number
 
--- what the first word of a line names: a command before `defcmd` and macros
+-- what a word names that isn't an entry of the table with its number of arguments
+abbrev pub other_name : List MacroRecord → List ℕ → Called
+other_name macros word =
+    if is_spelled word entry.Define then Define
+    else if is_command word then WrongCount
+    else macro_or_unknown (named word macros)
+
+abbrev pub entry_or_other : Option Entry → List MacroRecord → List ℕ → Called
+entry_or_other None macros word = other_name macros word
+entry_or_other (Some (entry.Run c)) macros word = Command c
+entry_or_other (Some entry.Define) macros word = Define
+
+-- what the first word of a line names: an entry of the table before a macro
 unfoldable pub named_by : List MacroRecord → List (List ℕ) → Called
 named_by macros words =
-    if (length words == 0) || is_some (command_of (word_at words 0)) then Command
-    else if bytes_eq (word_at words 0) (codes "defcmd") then Define
-    else macro_or_command (named (word_at words 0) macros)
+    if length words == 0 then Nothing else entry_or_other (entry_of (word_at words 0) (length words - 1)) macros (word_at words 0)

@@ -1,28 +1,24 @@
 -- The commands about processors.
-use Rattle.std.specs.Prelude.{ℕ, zero, suc, ◌==◌, ◌&&◌, Bool, List, [], ◌++◌, length, codes, nat_lt, Result, Ok, Err, if◌then◌else◌}
-use Rattle.mach_base.specs.Machine.{Context}
+use Rattle.std.specs.Prelude.{ℕ, zero, suc, ◌==◌, List, [], ◌++◌, length, codes, Result, Ok, Err, if◌then◌else◌}
+use Rattle.mach_base.specs.Machine.{Context, LineState}
 use Rattle.mach_base.specs.Number.{dec_text, number_of}
-use Rattle.mach_base.specs.Texts.{newline, has_bit}
+use Rattle.mach_base.specs.Texts.{newline}
+use Rattle.mach_base.specs.Masks.{has_bit}
 use Rattle.mach_base.specs.declared.number.NumFault.{NumFault}
 use Rattle.hart_ctx.specs.Context.{context_of}
 use Rattle.kdb_bt.specs.Frames.{frames_of}
 use Rattle.kdb_bt.specs.Texts.{frames_text}
 use Rattle.kdb_cmd.specs.declared.diagnostics.Diagnostic.{Diagnostic}
-use Rattle.kdb_cmd.specs.declared.diagnostics.Diagnostic.TheVariants.{WrongArguments, BadNumber, BadProcessor}
+use Rattle.kdb_cmd.specs.declared.diagnostics.Diagnostic.TheVariants.{BadNumber, BadProcessor}
 use Rattle.kdb_cmd.specs.declared.processors.Chosen.{Chosen}
-use Rattle.kdb_cmd.specs.LineState.{LineState, current_context}
-use Rattle.kdb_cmd.specs.Diagnostics.{word_at}
-use Rattle.kdb_cmd.specs.Refused.{◌>>=◌}
+use Rattle.kdb_cmd.specs.Answer.{current_context}
+use Rattle.mach_base.specs.Sequence.{◌>>=◌}
 
--- whether a processor is in the session; there are at most 16
-abbrev pub is_gathered : ℕ → ℕ → Bool
-is_gathered gathered n = nat_lt n 16 && has_bit gathered n
-
--- what stands between a number and those before it
+-- what separates a number from those before it
 abbrev pub separator : List ℕ → List ℕ
 separator before = if length before == 0 then [] else codes ", "
 
--- a number behind those before it, where its processor is in the session
+-- a number after those before it, where its processor is in the session
 unfoldable pub number_text : ℕ → ℕ → List ℕ → List ℕ
 number_text gathered n before = if has_bit gathered n then separator before ++ dec_text n else []
 
@@ -36,40 +32,37 @@ unfoldable pub current_line : ℕ → List ℕ
 current_line n = codes "Currently on cpu " ++ (dec_text n ++ newline)
 
 -- the line of the processors in the session
-unfoldable pub available_line : ℕ → List ℕ
-available_line gathered = codes "Available cpus: " ++ (numbers_text gathered 16 ++ newline)
+unfoldable pub available_line : ℕ → ℕ → List ℕ
+available_line gathered harts = codes "Available cpus: " ++ (numbers_text gathered harts ++ newline)
 
 -- `cpu`: the current processor, and those in the session
-unfoldable pub cpu_text : ℕ → ℕ → List ℕ
-cpu_text gathered current = current_line current ++ available_line gathered
+unfoldable pub cpu_text : ℕ → LineState → List ℕ
+cpu_text gathered s = current_line s.current ++ available_line gathered (length s.harts)
 
 -- a processor, where it is in the session
 abbrev pub gathered_or : ℕ → Result ℕ NumFault → Result ℕ Diagnostic
-gathered_or gathered (Ok n) = if is_gathered gathered n then Ok n else Err (BadProcessor n)
+gathered_or gathered (Ok n) = if has_bit gathered n then Ok n else Err (BadProcessor n)
 gathered_or gathered (Err why) = Err (BadNumber 1)
 
 -- the processor that the argument of `cpu N` names by its number, in decimal
-unfoldable pub processor_wanted : ℕ → List (List ℕ) → Result ℕ Diagnostic
-processor_wanted gathered words = gathered_or gathered (number_of 10 (word_at words 1))
+unfoldable pub processor_wanted : ℕ → List ℕ → Result ℕ Diagnostic
+processor_wanted gathered word = gathered_or gathered (number_of 10 word)
 
 -- a processor becomes the current one
-abbrev pub moved : ℕ → Result Chosen Diagnostic
-moved n = Ok (record { text = current_line n; current = n })
+abbrev pub chosen_processor : ℕ → Result Chosen Diagnostic
+chosen_processor n = Ok (record { text = current_line n; current = n })
 
--- `cpu [N]`, where these processors are in the session and this one is current
-unfoldable pub cpu_chosen : ℕ → ℕ → List (List ℕ) → Result Chosen Diagnostic
-cpu_chosen gathered current words =
-    if length words == 1 then Ok (record { text = cpu_text gathered current; current = current })
-    else if length words == 2 then (processor_wanted gathered words >>= moved)
-    else Err WrongArguments
+-- `cpu N`, where these processors are in the session
+unfoldable pub cpu_chosen : ℕ → List ℕ → Result Chosen Diagnostic
+cpu_chosen gathered word = processor_wanted gathered word >>= chosen_processor
 
 -- the frames of a context
 abbrev pub context_frames : LineState → Context → List ℕ
 context_frames s context = frames_text s.symbols 0 (frames_of s.memory context)
 
 -- `bt`: the frames of the current processor
-unfoldable pub bt_text : LineState → List (List ℕ) → Result (List ℕ) Diagnostic
-bt_text s words = if length words == 1 then Ok (context_frames s (current_context s)) else Err WrongArguments
+abbrev pub bt_text : LineState → List ℕ
+bt_text s = context_frames s (current_context s)
 
 -- a processor's number, and its frames
 unfoldable pub processor_frames : LineState → ℕ → List ℕ
@@ -81,5 +74,5 @@ frames_below gathered s zero = []
 frames_below gathered s (suc n) = frames_below gathered s n ++ (if has_bit gathered n then processor_frames s n else [])
 
 -- `btc`: the frames of each processor in the session
-unfoldable pub btc_text : ℕ → LineState → List (List ℕ) → Result (List ℕ) Diagnostic
-btc_text gathered s words = if length words == 1 then Ok (frames_below gathered s 16) else Err WrongArguments
+unfoldable pub btc_text : ℕ → LineState → List ℕ
+btc_text gathered s = frames_below gathered s (length s.harts)

@@ -1,21 +1,19 @@
 -- The commands about registers.
-use Rattle.std.specs.Prelude.{ℕ, ◌==◌, List, length, Option, Some, None, Result, Ok, Err, if◌then◌else◌}
+use Rattle.std.specs.Prelude.{ℕ, List, Option, Some, None, Result, Ok, Err, if◌then◌else◌}
+use Rattle.mach_base.specs.Machine.{LineState}
 use Rattle.hart_ctx.specs.declared.register_name.RegName.{RegName}
 use Rattle.hart_ctx.specs.RegisterName.{register_named}
-use Rattle.kdb_reg.specs.Registers.{is_zero, with_named, registers_text, set_text}
+use Rattle.kdb_reg.specs.Registers.{is_zero, with_named, set_text}
 use Rattle.kdb_cmd.specs.declared.diagnostics.Diagnostic.{Diagnostic}
-use Rattle.kdb_cmd.specs.declared.diagnostics.Diagnostic.TheVariants.{WrongArguments, BadRegister}
+use Rattle.kdb_cmd.specs.declared.diagnostics.Diagnostic.TheVariants.{BadRegister}
 use Rattle.kdb_cmd.specs.declared.outcomes.Outcome.TheVariants.{Stay}
 use Rattle.kdb_cmd.specs.declared.registers.RegisterWrite.{RegisterWrite}
-use Rattle.kdb_cmd.specs.LineState.{LineState, Answer, current_context, with_current}
-use Rattle.kdb_cmd.specs.Diagnostics.{word_at}
-use Rattle.kdb_cmd.specs.Refused.{◌>>=◌}
+use Rattle.kdb_cmd.specs.Answer.{Answer, current_context, with_current}
+use Rattle.kdb_cmd.specs.Words.{word_at}
+use Rattle.mach_base.specs.Sequence.{◌>>=◌}
 use Rattle.kdb_cmd.specs.Arguments.{argument}
 
--- `rd`: the registers of the current processor
-unfoldable pub rd_text : LineState → List (List ℕ) → Result (List ℕ) Diagnostic
-rd_text s words = if length words == 1 then Ok (registers_text (current_context s)) else Err WrongArguments
-
+-- the register of this name, or the diagnostic
 abbrev pub register_or_diagnostic : ℕ → Option RegName → Result RegName Diagnostic
 register_or_diagnostic place None = Err (BadRegister place)
 register_or_diagnostic place (Some reg) = Ok reg
@@ -26,9 +24,7 @@ register_argument words place = register_or_diagnostic place (register_named (wo
 
 -- the register and the value of `rm REG E`
 unfoldable pub rm_wanted : LineState → List (List ℕ) → Result RegisterWrite Diagnostic
-rm_wanted s words =
-    if length words == 3 then (register_argument words 1 >>= λ reg. argument s words 2 >>= λ value. Ok (record { reg = reg; value = value }))
-    else Err WrongArguments
+rm_wanted s words = register_argument words 1 >>= λ reg. argument s words 2 >>= λ value. Ok (record { reg = reg; value = value })
 
 -- the register of the current processor is set; x0 is refused
 abbrev pub register_set : LineState → RegisterWrite → Result Answer Diagnostic
@@ -37,5 +33,5 @@ register_set s wanted =
     else Ok (record { output = set_text wanted.reg wanted.value; state = with_current s (with_named (current_context s) wanted.reg wanted.value); outcome = Stay })
 
 -- `rm REG E`
-unfoldable pub rm_answer : LineState → List (List ℕ) → Result Answer Diagnostic
-rm_answer s words = rm_wanted s words >>= register_set s
+unfoldable pub rm_answer : List (List ℕ) → LineState → Result Answer Diagnostic
+rm_answer words s = rm_wanted s words >>= register_set s

@@ -2,7 +2,7 @@
 use Rattle.std.specs.Prelude.{ℕ, List, Option, Some, None, codes, unwrap_or, slice_index}
 use Rattle.std.specs.Option.{option_map}
 use Rattle.std.specs.Result.{result_ok}
-use Rattle.mach_base.specs.Machine.{Context}
+use Rattle.mach_base.specs.Machine.{Context, LineState}
 use Rattle.hart_ctx.specs.declared.register_name.RegName.{RegName}
 use Rattle.hart_ctx.specs.declared.register_name.RegName.TheVariants.{X, Pc}
 use Rattle.hart_ctx.specs.Context.{context_of}
@@ -10,7 +10,6 @@ use Rattle.hart_ctx.specs.RegisterName.{register_named}
 use Rattle.sym_map.specs.Lookups.{addr_of}
 use Rattle.kdb_env.specs.Variables.{Variables, value_of, number_at}
 use Rattle.kdb_expr.specs.Expression.{Scope}
-use Rattle.kdb_cmd.specs.LineState.{LineState}
 
 -- the value of a register
 abbrev pub register_value : Context → RegName → ℕ
@@ -33,10 +32,9 @@ radix_in vars = number_in vars (codes "RADIX")
 abbrev pub line_count_in : Variables → ℕ
 line_count_in vars = number_in vars (codes "MDCOUNT")
 
--- the width that is said, else BYTESPERWORD
-abbrev pub width_or : Variables → Option ℕ → ℕ
-width_or vars None = number_in vars (codes "BYTESPERWORD")
-width_or vars (Some width) = width
+-- the bytes of a word, where it isn't said
+abbrev pub width_in : Variables → ℕ
+width_in vars = number_in vars (codes "BYTESPERWORD")
 
 -- what the words of a line can name
 abbrev pub scope_of : LineState → Scope

@@ -1,5 +1,6 @@
 -- The commands about variables.
 use Rattle.std.specs.Prelude.{ℕ, zero, suc, ◌+◌, ◌==◌, List, [], ◌++◌, codes, length, take, drop, position, slice_index_or, Option, Some, None, Result, Ok, Err, if◌then◌else◌}
+use Rattle.mach_base.specs.Machine.{LineState}
 use Rattle.mach_base.specs.Texts.{newline}
 use Rattle.kdb_env.specs.declared.env_fault.EnvFault.{EnvFault}
 use Rattle.kdb_env.specs.declared.env_fault.EnvFault.TheVariants as fault
@@ -7,9 +8,8 @@ use Rattle.kdb_env.specs.Variables.{Variables, refusal_of, with_value}
 use Rattle.kdb_cmd.specs.declared.diagnostics.Diagnostic.{Diagnostic}
 use Rattle.kdb_cmd.specs.declared.diagnostics.Diagnostic.TheVariants as diagnostic
 use Rattle.kdb_cmd.specs.declared.outcomes.Outcome.TheVariants.{Stay}
-use Rattle.kdb_cmd.specs.LineState.{LineState, Answer}
-use Rattle.kdb_cmd.specs.Diagnostics.{word_at}
-use Rattle.kdb_cmd.specs.Refused.{◌>>=◌}
+use Rattle.kdb_cmd.specs.Answer.{Answer}
+use Rattle.mach_base.specs.Sequence.{◌>>=◌}
 
 -- the line of a variable: its name, = and its value
 unfoldable pub variable_line : List ℕ × List ℕ → List ℕ
@@ -24,27 +24,16 @@ first_lines vars (suc n) = first_lines vars n ++ variable_line (slice_index_or v
 unfoldable pub variables_text : Variables → List ℕ
 variables_text vars = first_lines vars (length vars)
 
--- `env`: the variables
-unfoldable pub env_text : LineState → List (List ℕ) → Result (List ℕ) Diagnostic
-env_text s words = if length words == 1 then Ok (variables_text s.variables) else Err diagnostic.WrongArguments
-
--- the name before this place of a word, and the value behind it; there must be a name
+-- the name before this place of a word, and the value after it; there must be a name
 abbrev pub assignment_at : List ℕ → Option ℕ → Result (List ℕ × List ℕ) Diagnostic
 assignment_at word None = Err diagnostic.WrongArguments
 assignment_at word (Some place) = if place == 0 then Err diagnostic.WrongArguments else Ok (take place word, drop (place + 1) word)
 
--- the name before the first = of a word, and the value behind it
+-- the name before the first = of a word, and the value after it
 abbrev pub assignment_of : List ℕ → Result (List ℕ × List ℕ) Diagnostic
 assignment_of word = assignment_at word (position (λ b. b == 61) word)
 
--- the name and the value that `set NAME=VALUE` or `set NAME VALUE` gives
-unfoldable pub pair_wanted : List (List ℕ) → Result (List ℕ × List ℕ) Diagnostic
-pair_wanted words =
-    if length words == 2 then assignment_of (word_at words 1)
-    else if length words == 3 then Ok (word_at words 1, word_at words 2)
-    else Err diagnostic.WrongArguments
-
--- the diagnostic of a variable that isn't set; want of memory has none
+-- the diagnostic of a variable that isn't set; out of memory has none
 abbrev pub env_diagnostic : EnvFault → Diagnostic
 env_diagnostic fault.BadName = diagnostic.BadName 1
 env_diagnostic fault.BadRadix = diagnostic.BadRadix
@@ -53,14 +42,15 @@ env_diagnostic fault.BadCount = diagnostic.BadCount
 env_diagnostic fault.Full = diagnostic.TooManyVariables
 env_diagnostic fault.OutOfMemory = diagnostic.TooManyVariables
 
+-- the variables, unless they are refused
 abbrev pub variables_unless : Option EnvFault → Variables → Result Variables Diagnostic
 variables_unless None vars = Ok vars
 variables_unless (Some why) vars = Err (env_diagnostic why)
 
--- the variables once the one that the words name is set
-unfoldable pub variables_set : Variables → List (List ℕ) → Result Variables Diagnostic
-variables_set vars words = pair_wanted words >>= λ pair. variables_unless (refusal_of vars pair.0 pair.1) (with_value vars pair.0 pair.1)
+-- the variables once this name has this value
+unfoldable pub variables_set : Variables → List ℕ × List ℕ → Result Variables Diagnostic
+variables_set vars pair = variables_unless (refusal_of vars pair.0 pair.1) (with_value vars pair.0 pair.1)
 
--- `set NAME=VALUE`, `set NAME VALUE`
-abbrev pub set_answer : LineState → List (List ℕ) → Result Answer Diagnostic
-set_answer s words = variables_set s.variables words >>= λ vars. Ok (record { output = []; state = record s { variables = vars }; outcome = Stay })
+-- `set NAME VALUE`
+abbrev pub set_answer : List ℕ × List ℕ → LineState → Result Answer Diagnostic
+set_answer pair s = variables_set s.variables pair >>= λ vars. Ok (record { output = []; state = record s { variables = vars }; outcome = Stay })

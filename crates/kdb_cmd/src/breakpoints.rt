@@ -1,15 +1,16 @@
 ghost use Rattle.std.specs.Prelude.{◌≡◌, ◌++◌, unwrap_or, OnOk, IfOk};
+ghost use Rattle.mach_base.specs.declared.limits.TheConstants.{PLACES};
 ghost use Rattle.kdb_cmd.specs.Refused.{Answers};
-ghost use Rattle.kdb_cmd.specs.Breakpoints.{state_word, breakpoint_line, place_line, first_lines, bl_text, bl_marked, fault_diagnostic, placed, bp_marked, change_word, change_line, changed_at, line_of_change, changed_first, changed_lines, one_changed, word_changed, mark_marked, breakpoints_marked};
+ghost use Rattle.kdb_cmd.specs.Breakpoints.{state_word, breakpoint_line, place_line, first_lines, lines_or_none, bl_text, fault_diagnostic, bp_marked, change_word, change_line, changed_at, line_of_change, changed_first, changed_lines, all_changed, one_changed, word_changed};
 
 use crate::Diagnostic;
-use crate::arguments::argument;
-use crate::diagnostics::word_at;
+use crate::commands::Marking;
 use crate::refusals::Refusal;
-use crate::spellings::{Breaking, Marking};
 use crate::views::View;
 use kdb_bp::{BpFault, Breaks, Place};
-use mach_base::{OutOfMemory, Peek, Text, parse_number, push_bytes, push_dec, push_newline};
+use mach_base::{
+    OutOfMemory, PLACES, Peek, Text, parse_number, push_bytes, push_dec, push_newline,
+};
 use std::alloc::Global;
 use sym_map::{Symbols, push_place};
 
@@ -60,36 +61,34 @@ fn push_if_set(
 }
 
 fn push_places(out: &mut Vec<u8>, names: &Symbols, breaks: Breaks) -> Result<(), OutOfMemory>
-    ensures { OnOk result (out.new.items ≡ out.old.items ++ first_lines names.now breaks 16) }
+    ensures { OnOk result (out.new.items ≡ out.old.items ++ first_lines names.now breaks PLACES) }
 {
-    for number in 0..16u8 {
+    for number in 0..PLACES {
         push_if_set(out, names, number, breaks.at(number))?;
     }
     Ok(())
 }
 
-/// `bl`: the places that are set.
+/// These lines; where there are none, the one that says so.
+#[tactic(auto, unfolding(crate::specs::Breakpoints::lines_or_none))]
+fn or_none_set(mut lines: Vec<u8>) -> Result<Text, OutOfMemory>
+    ensures { IfOk result (λ text. text ≡ lines_or_none lines.items) }
+{
+    if lines.is_empty() {
+        push_bytes(&mut lines, b"No breakpoints are set")?;
+        push_newline(&mut lines)?;
+    }
+    Ok(Text::from_vec(lines))
+}
+
+/// `bp`, `bl`: the places that are set.
 #[tactic(auto, unfolding(crate::specs::Breakpoints::bl_text))]
-fn bl_text(alloc: Global, names: &Symbols, breaks: Breaks) -> Result<Text, OutOfMemory>
+pub fn bl(alloc: Global, names: &Symbols, breaks: Breaks) -> Result<Text, OutOfMemory>
     ensures { IfOk result (λ text. text ≡ bl_text names.now breaks) }
 {
     let mut out = Vec::new(alloc);
     push_places(&mut out, names, breaks)?;
-    if out.is_empty() {
-        push_bytes(&mut out, b"No breakpoints are set")?;
-        push_newline(&mut out)?;
-    }
-    Ok(Text::from_vec(out))
-}
-
-fn bl_marked<P: Peek>(alloc: Global, view: &View<P>) -> Result<Marked, Refusal>
-    ensures { Answers result (bl_marked view.now) }
-{
-    let text = bl_text(alloc, view.names, view.kdb.breaks)?;
-    Ok(Marked {
-        text,
-        breaks: view.kdb.breaks,
-    })
+    or_none_set(out)
 }
 
 fn fault_diagnostic(fault: BpFault, addr: u64) -> Diagnostic
@@ -103,9 +102,10 @@ fn fault_diagnostic(fault: BpFault, addr: u64) -> Diagnostic
     }
 }
 
-/// A breakpoint more, at this address.
-fn placed<P: Peek>(alloc: Global, view: &View<P>, addr: u64) -> Result<Marked, Refusal>
-    ensures { Answers result (placed view.now addr) }
+/// `bp E`: a breakpoint more, at this address.
+#[tactic(auto, unfolding(crate::specs::Breakpoints::bp_marked))]
+pub fn bp<P: Peek>(alloc: Global, view: &View<P>, addr: u64) -> Result<Marked, Refusal>
+    ensures { Answers result (bp_marked view.now addr) }
 {
     let mut breaks = view.kdb.breaks;
     match breaks.add(view.mem, addr) {
@@ -123,21 +123,6 @@ fn placed<P: Peek>(alloc: Global, view: &View<P>, addr: u64) -> Result<Marked, R
         }
         Err(fault) => Err(Refusal::Diagnosed(fault_diagnostic(fault, addr))),
     }
-}
-
-/// `bp [E]`.
-#[tactic(auto, unfolding(crate::specs::Breakpoints::bp_marked))]
-fn bp_marked<P: Peek>(alloc: Global, view: &View<P>, words: &[Text]) -> Result<Marked, Refusal>
-    ensures { Answers result (bp_marked view.now words.now) }
-{
-    if words.len() == 1 {
-        return bl_marked(alloc, view);
-    }
-    if words.len() != 2 {
-        return Err(Refusal::Diagnosed(Diagnostic::WrongArguments));
-    }
-    let addr = argument(view, words, 1)?;
-    placed(alloc, view, addr)
 }
 
 fn change_word(marking: Marking) -> &'static str
@@ -196,16 +181,16 @@ fn change_if_set(
 
 /// Changes each place that is set.
 fn all_changed(alloc: Global, breaks: Breaks, marking: Marking) -> Result<Marked, OutOfMemory>
-    ensures text { IfOk result (λ m. m.text ≡ changed_lines marking breaks 16) }
-    ensures places { IfOk result (λ m. m.breaks ≡ changed_first marking breaks 16) }
+    ensures { IfOk result (λ marked. marked ≡ all_changed breaks marking) }
 {
     let mut out = Vec::new(alloc);
     let mut changed = breaks;
-    for number in 0..16u8 {
+    for number in 0..PLACES {
         change_if_set(&mut out, &mut changed, marking, number)?;
     }
+    let text = or_none_set(out)?;
     Ok(Marked {
-        text: Text::from_vec(out),
+        text,
         breaks: changed,
     })
 }
@@ -219,7 +204,7 @@ fn one_changed(
 ) -> Result<Marked, Refusal>
     ensures { Answers result (one_changed breaks marking number) }
 {
-    if number > 15 {
+    if number >= u64::from(PLACES) {
         return Err(Refusal::Diagnosed(Diagnostic::NoBreakpoint(number)));
     }
     match changed_at(breaks, marking, number as u8) {
@@ -235,9 +220,9 @@ fn one_changed(
     }
 }
 
-/// The places that a word names, `*` or a number, are changed.
+/// `bc N`, `bd N`, `be N`: the places that a word names, `*` or a number, are changed.
 #[tactic(auto, unfolding(crate::specs::Breakpoints::word_changed))]
-fn word_changed(
+pub fn word_changed(
     alloc: Global,
     breaks: Breaks,
     marking: Marking,
@@ -252,46 +237,5 @@ fn word_changed(
     match parse_number(word, 10) {
         Ok(number) => one_changed(alloc, breaks, marking, number),
         Err(_) => Err(Refusal::Diagnosed(Diagnostic::BadNumber(1))),
-    }
-}
-
-/// `bc [N]`, `bd [N]`, `be [N]`.
-#[tactic(auto, unfolding(crate::specs::Breakpoints::mark_marked))]
-fn mark_marked<P: Peek>(
-    alloc: Global,
-    view: &View<P>,
-    marking: Marking,
-    words: &[Text],
-) -> Result<Marked, Refusal>
-    ensures { Answers result (mark_marked view.now marking words.now) }
-{
-    if words.len() == 1 {
-        return bl_marked(alloc, view);
-    }
-    if words.len() != 2 {
-        return Err(Refusal::Diagnosed(Diagnostic::WrongArguments));
-    }
-    word_changed(alloc, view.kdb.breaks, marking, word_at(words, 1))
-}
-
-/// A command about breakpoints.
-#[tactic(auto, unfolding(crate::specs::Breakpoints::breakpoints_marked))]
-pub fn breakpoints_marked<P: Peek>(
-    alloc: Global,
-    view: &View<P>,
-    breaking: Breaking,
-    words: &[Text],
-) -> Result<Marked, Refusal>
-    ensures { Answers result (breakpoints_marked view.now breaking words.now) }
-{
-    match breaking {
-        Breaking::Bp => bp_marked(alloc, view, words),
-        Breaking::Bl => {
-            if words.len() != 1 {
-                return Err(Refusal::Diagnosed(Diagnostic::WrongArguments));
-            }
-            bl_marked(alloc, view)
-        }
-        Breaking::Mark(marking) => mark_marked(alloc, view, marking, words),
     }
 }

@@ -4,9 +4,10 @@ ghost use Rattle.kdb_cmd.specs.Refused.{Refuses};
 ghost use Rattle.kdb_cmd.specs.Macros.{is_end, is_reserved, macro_diagnostic, line_stored, macro_begun};
 
 use crate::Diagnostic;
-use crate::diagnostics::word_at;
+use crate::commands::Entry;
 use crate::refusals::Refusal;
-use crate::spellings::command_of;
+use crate::table::{is_command, takes};
+use crate::words::{argument_count, word_at};
 use kdb_macro::{MacroFault, Macros};
 use mach_base::{Text, next_word};
 
@@ -20,11 +21,11 @@ fn is_end(line: &[u8]) -> bool
     }
 }
 
-/// Whether a command has the name.
+/// Whether an entry of the table has the name, or the end of a macro.
 pub fn is_reserved(name: &[u8]) -> bool
     ensures { result ≡ is_reserved name.now }
 {
-    command_of(name).is_some() || name == b"defcmd".as_slice() || name == b"endefcmd".as_slice()
+    is_command(name) || name == b"endefcmd".as_slice()
 }
 
 fn macro_diagnostic(fault: MacroFault) -> Diagnostic
@@ -61,7 +62,7 @@ pub fn begin(macros: &mut Macros, words: &[Text]) -> Result<(), Refusal>
     requires { macros.old.defining ≡ false }
     ensures { MatchResult result (λ _. macro_begun macros.old words.now ≡ Ok macros.new) (λ refusal. Refuses refusal (macro_begun macros.old words.now) × (macros.new ≡ macros.old)) }
 {
-    if words.len() < 2 || words.len() > 4 {
+    if !takes(argument_count(words), Entry::Define) {
         return Err(Refusal::Diagnosed(Diagnostic::WrongArguments));
     }
     let name = word_at(words, 1);

@@ -1,14 +1,16 @@
 ghost use Rattle.std.specs.Prelude.{◌≡◌, ◌++◌, IfOk, OnOk};
 ghost use Rattle.mach_base.specs.Texts.{newline};
-ghost use Rattle.kdb_cmd.specs.Diagnostics.{number_of, message_text, detail_of, detail_text, word_at, diagnostic_text};
+ghost use Rattle.kdb_cmd.specs.Diagnostics.{message_with, message_of, detail_text, message_line, diagnostic_text};
 
+use crate::words::word_at;
 use mach_base::{OutOfMemory, Text, push_address, push_bytes, push_dec, push_newline};
 use std::alloc::Global;
+use std::marker::Model;
 
 /// Why a line is refused. A word is named by its place in the line; the command's is 0.
 #[derive(Clone, Copy, Debug, PartialEq, Eq)]
 pub enum Diagnostic {
-    /// Nothing has the name that stands in this word.
+    /// Nothing has the name in this word.
     UnknownName(usize),
     /// The command takes another number of arguments.
     WrongArguments,
@@ -52,7 +54,7 @@ pub enum Diagnostic {
     UnclosedQuote,
     /// The line has more than 20 words before its pipe.
     TooManyWords,
-    /// What stands round the pipe is no command with a filter.
+    /// The words before and after the pipe are no command with a filter.
     BadPipe,
     /// The name in this word is no name.
     BadName(usize),
@@ -70,98 +72,74 @@ pub enum Detail {
     Halted(u8),
 }
 
-/// The word at a place of the line; no bytes behind the last one.
-pub fn word_at(words: &[Text], place: usize) -> &[u8]
-    ensures { result.now ≡ word_at words.now place }
+/// What is printed of a diagnostic. Contracts see it as the record of its number, its text and its detail.
+#[derive(Debug, Drop)]
+struct Message {
+    number: u8,
+    text: &'static [u8],
+    detail: Detail,
+}
+
+impl Model for Message {
+    ghost use Rattle.kdb_cmd.specs.Diagnostics.{Message};
+
+    ghost Value = { Message };
+
+    ghost view = { λ m. record { number = m.number; text = m.text.now; detail = m.detail } };
+}
+
+fn message_with(number: u8, text: &'static [u8], detail: Detail) -> Message
+    ensures { result ≡ message_with number text.now detail }
 {
-    match words.get(place) {
-        Some(word) => word.as_bytes(),
-        None => b"",
+    Message {
+        number,
+        text,
+        detail,
     }
 }
 
-#[tactic(auto, unfolding(crate::specs::Diagnostics::number_of))]
-fn number_of(diagnostic: Diagnostic) -> u64
-    ensures { result ≡ number_of diagnostic }
+/// The message of a diagnostic.
+#[tactic(auto, unfolding(crate::specs::Diagnostics::message_of))]
+fn message_of(diagnostic: Diagnostic) -> Message
+    ensures { result ≡ message_of diagnostic }
 {
     match diagnostic {
-        Diagnostic::UnknownName(_) => 1,
-        Diagnostic::WrongArguments => 2,
-        Diagnostic::BadWidth => 3,
-        Diagnostic::BadRadix => 4,
-        Diagnostic::UnknownCommand => 5,
-        Diagnostic::TooManyVariables => 6,
-        Diagnostic::TooManyBreakpoints => 7,
-        Diagnostic::Duplicate => 8,
-        Diagnostic::NoBreakpoint(_) => 9,
-        Diagnostic::BadRegister(_) => 10,
-        Diagnostic::BadNumber(_) => 11,
-        Diagnostic::BadAddress(_) => 12,
-        Diagnostic::NotText(_) => 13,
-        Diagnostic::BadProcessor(_) => 14,
-        Diagnostic::EnteredOn(_) => 15,
-        Diagnostic::IsHalted(_) => 16,
-        Diagnostic::BadCount => 17,
-        Diagnostic::NestedMacro => 18,
-        Diagnostic::ReservedName(_) => 19,
-        Diagnostic::MacroFull => 20,
-        Diagnostic::UnclosedQuote => 21,
-        Diagnostic::TooManyWords => 22,
-        Diagnostic::BadPipe => 23,
-        Diagnostic::BadName(_) => 24,
-    }
-}
-
-#[tactic(auto, unfolding(crate::specs::Diagnostics::message_text))]
-fn message(diagnostic: Diagnostic) -> &'static str
-    ensures { result.now ≡ message_text diagnostic }
-{
-    match diagnostic {
-        Diagnostic::UnknownName(_) => "unknown name ",
-        Diagnostic::WrongArguments => "wrong number of arguments",
-        Diagnostic::BadWidth => "bad width",
-        Diagnostic::BadRadix => "bad radix",
-        Diagnostic::UnknownCommand => "unknown command ",
-        Diagnostic::TooManyVariables => "too many variables",
-        Diagnostic::TooManyBreakpoints => "too many breakpoints",
-        Diagnostic::Duplicate => "duplicate",
-        Diagnostic::NoBreakpoint(_) => "no breakpoint ",
-        Diagnostic::BadRegister(_) => "bad register ",
-        Diagnostic::BadNumber(_) => "bad number ",
-        Diagnostic::BadAddress(_) => "bad address ",
-        Diagnostic::NotText(_) => "not text ",
-        Diagnostic::BadProcessor(_) => "bad cpu ",
-        Diagnostic::EnteredOn(_) => "entered on cpu ",
-        Diagnostic::IsHalted(_) => "cpu ",
-        Diagnostic::BadCount => "bad count",
-        Diagnostic::NestedMacro => "nested macro ",
-        Diagnostic::ReservedName(_) => "reserved name ",
-        Diagnostic::MacroFull => "macro is full",
-        Diagnostic::UnclosedQuote => "unclosed quote",
-        Diagnostic::TooManyWords => "too many words",
-        Diagnostic::BadPipe => "bad pipe",
-        Diagnostic::BadName(_) => "bad name ",
-    }
-}
-
-#[tactic(auto, unfolding(crate::specs::Diagnostics::detail_of))]
-fn detail_of(diagnostic: Diagnostic) -> Detail
-    ensures { result ≡ detail_of diagnostic }
-{
-    match diagnostic {
-        Diagnostic::UnknownName(place)
-        | Diagnostic::BadRegister(place)
-        | Diagnostic::BadNumber(place)
-        | Diagnostic::ReservedName(place)
-        | Diagnostic::BadName(place) => Detail::Word(place),
-        Diagnostic::UnknownCommand | Diagnostic::NestedMacro => Detail::Word(0),
-        Diagnostic::BadAddress(addr) | Diagnostic::NotText(addr) => Detail::Address(addr),
-        Diagnostic::NoBreakpoint(number) | Diagnostic::BadProcessor(number) => {
-            Detail::Number(number)
-        }
-        Diagnostic::EnteredOn(hart) => Detail::Number(u64::from(hart)),
-        Diagnostic::IsHalted(hart) => Detail::Halted(hart),
-        _ => Detail::Nothing,
+        Diagnostic::UnknownName(place) => message_with(1, b"unknown name ", Detail::Word(place)),
+        Diagnostic::WrongArguments => message_with(
+            2,
+            b"wrong number of arguments",
+            Detail::Nothing,
+        ),
+        Diagnostic::BadWidth => message_with(3, b"bad width", Detail::Nothing),
+        Diagnostic::BadRadix => message_with(4, b"bad radix", Detail::Nothing),
+        Diagnostic::UnknownCommand => message_with(5, b"unknown command ", Detail::Word(0)),
+        Diagnostic::TooManyVariables => message_with(6, b"too many variables", Detail::Nothing),
+        Diagnostic::TooManyBreakpoints => message_with(7, b"too many breakpoints", Detail::Nothing),
+        Diagnostic::Duplicate => message_with(8, b"duplicate", Detail::Nothing),
+        Diagnostic::NoBreakpoint(place) => message_with(
+            9,
+            b"no breakpoint ",
+            Detail::Number(place),
+        ),
+        Diagnostic::BadRegister(place) => message_with(10, b"bad register ", Detail::Word(place)),
+        Diagnostic::BadNumber(place) => message_with(11, b"bad number ", Detail::Word(place)),
+        Diagnostic::BadAddress(addr) => message_with(12, b"bad address ", Detail::Address(addr)),
+        Diagnostic::NotText(addr) => message_with(13, b"not text ", Detail::Address(addr)),
+        Diagnostic::BadProcessor(hart) => message_with(14, b"bad cpu ", Detail::Number(hart)),
+        Diagnostic::EnteredOn(hart) => message_with(
+            15,
+            b"entered on cpu ",
+            Detail::Number(u64::from(hart)),
+        ),
+        Diagnostic::IsHalted(hart) => message_with(16, b"cpu ", Detail::Halted(hart)),
+        Diagnostic::BadCount => message_with(17, b"bad count", Detail::Nothing),
+        Diagnostic::NestedMacro => message_with(18, b"nested macro ", Detail::Word(0)),
+        Diagnostic::ReservedName(place) => message_with(19, b"reserved name ", Detail::Word(place)),
+        Diagnostic::MacroFull => message_with(20, b"macro is full", Detail::Nothing),
+        Diagnostic::UnclosedQuote => message_with(21, b"unclosed quote", Detail::Nothing),
+        Diagnostic::TooManyWords => message_with(22, b"too many words", Detail::Nothing),
+        Diagnostic::BadPipe => message_with(23, b"bad pipe", Detail::Nothing),
+        Diagnostic::BadName(place) => message_with(24, b"bad name ", Detail::Word(place)),
     }
 }
 
@@ -182,20 +160,16 @@ fn push_detail(out: &mut Vec<u8>, words: &[Text], detail: Detail) -> Result<(), 
     Ok(())
 }
 
-/// Appends the line of a diagnostic about these words.
-#[tactic(auto, unfolding(crate::specs::Diagnostics::diagnostic_text))]
-fn push_diagnostic(
-    out: &mut Vec<u8>,
-    words: &[Text],
-    diagnostic: Diagnostic,
-) -> Result<(), OutOfMemory>
-    ensures { OnOk result (out.new.items ≡ out.old.items ++ diagnostic_text words.now diagnostic) }
+/// Appends the line of a message about these words.
+#[tactic(auto, unfolding(crate::specs::Diagnostics::message_line))]
+fn push_message(out: &mut Vec<u8>, words: &[Text], message: &Message) -> Result<(), OutOfMemory>
+    ensures { OnOk result (out.new.items ≡ out.old.items ++ message_line words.now message.now) }
 {
     push_bytes(out, b"diag: ")?;
-    push_dec(out, number_of(diagnostic))?;
+    push_dec(out, u64::from(message.number))?;
     push_bytes(out, b": ")?;
-    push_bytes(out, message(diagnostic).as_bytes())?;
-    push_detail(out, words, detail_of(diagnostic))?;
+    push_bytes(out, message.text)?;
+    push_detail(out, words, message.detail)?;
     push_newline(out)?;
     Ok(())
 }
@@ -205,6 +179,6 @@ pub fn diagnosed(alloc: Global, words: &[Text], diagnostic: Diagnostic) -> Resul
     ensures { IfOk result (λ text. text ≡ diagnostic_text words.now diagnostic) }
 {
     let mut out = Vec::new(alloc);
-    push_diagnostic(&mut out, words, diagnostic)?;
+    push_message(&mut out, words, &message_of(diagnostic))?;
     Ok(Text::from_vec(out))
 }

@@ -1,75 +1,39 @@
-ghost use Rattle.std.specs.Prelude.{◌≡◌, ◌<◌, length, Ok};
-ghost use Rattle.kdb_cmd.specs.State.{state_of};
-ghost use Rattle.kdb_cmd.specs.Refused.{Changes};
-ghost use Rattle.kdb_cmd.specs.Leaving.{pc_wanted, go_answer, ss_refusal};
+ghost use Rattle.std.specs.Prelude.{◌≡◌};
+ghost use Rattle.kdb_cmd.specs.Desk.{IsReady, IsSameDesk, Changes};
+ghost use Rattle.kdb_cmd.specs.Leaving.{go_answer, ss_refusal};
 
-use crate::arguments::argument;
+use crate::desk::Desk;
+use crate::outcomes::silent;
 use crate::refusals::Refusal;
 use crate::views::View;
-use crate::{Diagnostic, Kdb, Outcome, Said};
-use hart_ctx::Context;
-use mach_base::{Hart, Peek, Text};
-use std::alloc::Global;
-use sym_map::Symbols;
-
-/// The pc that `go [E]` gives the current processor, if it gives one.
-#[tactic(auto, unfolding(crate::specs::Leaving::pc_wanted))]
-fn pc_wanted<P: Peek>(view: &View<P>, words: &[Text]) -> Result<Option<u64>, Diagnostic>
-    ensures { result ≡ pc_wanted view.now words.now }
-{
-    if words.len() == 1 {
-        return Ok(None);
-    }
-    if words.len() == 2 {
-        let pc = argument(view, words, 1)?;
-        return Ok(Some(pc));
-    }
-    Err(Diagnostic::WrongArguments)
-}
+use crate::{Diagnostic, Outcome, Said};
+use mach_base::{Hart, Peek};
 
 /// `go [E]`.
-#[tactic(auto, unfolding(crate::specs::Leaving::go_answer))]
-pub fn go<P: Peek>(
-    alloc: Global,
-    mem: &P,
-    ctxs: &mut [Context],
-    kdb: &Kdb,
-    names: &Symbols,
-    entry: Hart,
-    words: &[Text],
-) -> Result<Said, Refusal>
-    requires { kdb.now.current < length ctxs.old }
-    ensures { Changes result (state_of ctxs.old (P.memory mem.now) kdb.now names.now) (state_of ctxs.new (P.memory mem.now) kdb.now names.now) (go_answer entry.0 (state_of ctxs.old (P.memory mem.now) kdb.now names.now) words.now) }
+#[tactic(auto, using(crate::proofs::Gathered::gathered_there), unfolding(crate::specs::Leaving::go_answer))]
+pub fn go<P: Peek>(desk: &mut Desk<P>, pc: Option<u64>) -> Result<Said, Refusal>
+    requires { IsReady P.memory desk.old }
+    ensures answer { Changes P.memory result desk.old desk.new (λ g. go_answer pc g.entry) }
+    ensures same { IsSameDesk P.rest desk.old desk.new }
+    ensures kdb { desk.new.kdb.now ≡ desk.old.kdb.now }
 {
-    let view = View {
-        mem,
-        ctxs,
-        kdb,
-        names,
-    };
-    let wanted = pc_wanted(&view, words)?;
-    if kdb.current != entry.0 {
-        return Err(Refusal::Diagnosed(Diagnostic::EnteredOn(entry.0)));
+    let entry = desk.gathering.entry;
+    if desk.kdb.current != entry {
+        return Err(Refusal::Diagnosed(Diagnostic::EnteredOn(entry)));
     }
-    if let Some(pc) = wanted {
-        let mut context = ctxs[usize::from(kdb.current)];
+    if let Some(pc) = pc {
+        let mut context = desk.ctxs[usize::from(desk.kdb.current)];
         context.pc = pc;
-        ctxs[usize::from(kdb.current)] = context;
+        desk.ctxs[usize::from(desk.kdb.current)] = context;
     }
-    Ok(Said {
-        text: Text::from_vec(Vec::new(alloc)),
-        outcome: Outcome::Go,
-    })
+    Ok(silent(desk.alloc, Outcome::Go))
 }
 
-/// `ss`.
+/// Why `ss` is refused.
 #[tactic(auto, unfolding(crate::specs::Leaving::ss_refusal))]
-pub fn ss_refusal<P: Peek>(view: &View<P>, entry: Hart, words: &[Text]) -> Option<Diagnostic>
-    ensures { result ≡ ss_refusal entry.0 view.now words.now }
+pub fn ss_refusal<P: Peek>(view: &View<P>, entry: Hart) -> Option<Diagnostic>
+    ensures { result ≡ ss_refusal entry.0 view.now }
 {
-    if words.len() != 1 {
-        return Some(Diagnostic::WrongArguments);
-    }
     if view.kdb.current != entry.0 {
         return Some(Diagnostic::EnteredOn(entry.0));
     }

@@ -1,7 +1,7 @@
 //! One line of the debugger: what it prints, what it changes, and whether it leaves the session.
 //!
 //! - A *line* is cut into *words*, of which the first names the *command* and the others are its *arguments*; an
-//!   argument is mostly an expression. Behind a pipe stands a filter, through which everything goes that is printed.
+//!   argument is mostly an expression. After a pipe comes a filter, through which everything goes that is printed.
 //! - A line is *refused* by a *diagnostic*, the first that holds, which is printed and changes nothing.
 //! - The *state* of a line is what it sees and may change: the harts' contexts, memory, breakpoints, variables, macros,
 //!   symbols, and the number of the *current* processor, which the commands are about.
@@ -16,15 +16,16 @@ mod arguments;
 mod breakpoints;
 mod changed_memory;
 mod commands;
+mod cutting;
 mod defining;
+mod desk;
 mod diagnostics;
-mod filtered;
-mod frames;
 mod help;
 mod laws;
 mod leaving;
 mod lines;
 mod macro_lines;
+mod meanings;
 mod naming;
 mod outcomes;
 mod processors;
@@ -32,14 +33,18 @@ mod refusals;
 mod registers;
 mod session;
 mod shown_memory;
-mod spellings;
+mod sizes;
+mod table;
 #[cfg(test)]
 mod tests;
 mod variables;
 mod views;
+mod words;
 
 use diagnostics::Diagnostic;
-pub use laws::lines_keep_the_limits;
+pub use laws::{
+    lines_keep_the_limits, refused_lines_change_nothing, steps_begin_where_a_hart_runs,
+};
 pub use lines::run_line;
 pub use outcomes::{Outcome, Said};
 pub use session::Kdb;

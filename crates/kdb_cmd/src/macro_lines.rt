@@ -1,22 +1,19 @@
-ghost use Rattle.std.specs.Prelude.{◌≡◌, ◌<◌, ◌^◌, true, length, slice_get, IfOk, OnOk};
-ghost use Rattle.mach_base.specs.Texts.{has_bit};
-ghost use Rattle.kdb_cmd.specs.State.{state_of};
-ghost use Rattle.kdb_cmd.specs.Refused.{Changes};
+ghost use Rattle.std.specs.Prelude.{◌≡◌, slice_get, IfOk};
+ghost use Rattle.kdb_cmd.specs.Desk.{IsReady, IsSameDesk, Changes, Says};
 ghost use Rattle.kdb_cmd.specs.MacroLines.{stays, inner_meaning, inner_answer, inner_line, lines_in, macro_answer};
 
-use crate::commands::{stay, words_meaning};
+use crate::cutting::{filtered_output, uncut};
+use crate::desk::Desk;
 use crate::diagnostics::diagnosed;
-use crate::frames::{through, uncut};
-use crate::naming::{Called, named_by};
+use crate::meanings::words_meaning;
+use crate::naming::named_by;
+use crate::outcomes::stay;
 use crate::refusals::Refusal;
-use crate::session::Gathering;
-use crate::{Diagnostic, Kdb, Outcome, Said};
-use hart_ctx::Context;
+use crate::{Outcome, Said};
 use kdb_lex::{LexFault, Lexed, lex};
 use kdb_macro::Macros;
 use mach_base::{OutOfMemory, Peek, Text, push_bytes};
 use std::alloc::Global;
-use sym_map::Symbols;
 
 fn stays(outcome: Outcome) -> bool
     ensures { result ≡ stays outcome }
@@ -29,50 +26,28 @@ fn stays(outcome: Outcome) -> bool
 
 /// The words of a macro's line, which calls and begins no macro.
 #[tactic(auto, unfolding(crate::specs::MacroLines::inner_meaning))]
-fn inner_meaning<P: Peek>(
-    alloc: Global,
-    mem: &mut P,
-    ctxs: &mut [Context],
-    kdb: &mut Kdb,
-    names: &Symbols,
-    gathering: Gathering,
-    words: &[Text],
-) -> Result<Said, Refusal>
-    requires gathered { gathering.gathered < 2 ^ length ctxs.old }
-    requires current_there_before { kdb.old.current < length ctxs.old }
-    requires current_before { has_bit gathering.gathered kdb.old.current ≡ true }
-    ensures answer { Changes result (state_of ctxs.old (P.memory mem.old) kdb.old names.now) (state_of ctxs.new (P.memory mem.new) kdb.new names.now) (inner_meaning gathering words.now (state_of ctxs.old (P.memory mem.old) kdb.old names.now)) }
-    ensures current_there { kdb.new.current < length ctxs.new }
-    ensures current { has_bit gathering.gathered kdb.new.current ≡ true }
+fn inner_meaning<P: Peek>(desk: &mut Desk<P>, words: &[Text]) -> Result<Said, Refusal>
+    requires ready { IsReady P.memory desk.old }
+    ensures answer { Changes P.memory result desk.old desk.new (inner_meaning words.now) }
+    ensures ready { IsReady P.memory desk.new }
+    ensures same { IsSameDesk P.rest desk.old desk.new }
 {
-    match named_by(&kdb.macros, words) {
-        Called::Command => words_meaning(alloc, mem, ctxs, kdb, names, gathering, words),
-        Called::Define | Called::Macro(_) => Err(Refusal::Diagnosed(Diagnostic::NestedMacro)),
-    }
+    let called = named_by(&desk.kdb.macros, words);
+    words_meaning(desk, called, words)
 }
 
 /// The words of a macro's line. A diagnostic changes nothing.
 #[tactic(auto, unfolding(crate::specs::MacroLines::inner_answer))]
-fn inner_answer<P: Peek>(
-    alloc: Global,
-    mem: &mut P,
-    ctxs: &mut [Context],
-    kdb: &mut Kdb,
-    names: &Symbols,
-    gathering: Gathering,
-    words: &[Text],
-) -> Result<Said, OutOfMemory>
-    requires gathered { gathering.gathered < 2 ^ length ctxs.old }
-    requires current_there_before { kdb.old.current < length ctxs.old }
-    requires current_before { has_bit gathering.gathered kdb.old.current ≡ true }
-    ensures answer { IfOk result (λ said. inner_answer gathering words.now (state_of ctxs.old (P.memory mem.old) kdb.old names.now) ≡ record { output = said.text; state = state_of ctxs.new (P.memory mem.new) kdb.new names.now; outcome = said.outcome }) }
-    ensures current_there { kdb.new.current < length ctxs.new }
-    ensures current { has_bit gathering.gathered kdb.new.current ≡ true }
+fn inner_answer<P: Peek>(desk: &mut Desk<P>, words: &[Text]) -> Result<Said, OutOfMemory>
+    requires ready { IsReady P.memory desk.old }
+    ensures answer { Says P.memory result desk.old desk.new (inner_answer words.now) }
+    ensures ready { IsReady P.memory desk.new }
+    ensures same { IsSameDesk P.rest desk.old desk.new }
 {
-    match inner_meaning(alloc, mem, ctxs, kdb, names, gathering, words) {
+    match inner_meaning(desk, words) {
         Ok(said) => Ok(said),
         Err(Refusal::Diagnosed(diagnostic)) => {
-            let text = diagnosed(alloc, words, diagnostic)?;
+            let text = diagnosed(desk.alloc, words, diagnostic)?;
             Ok(stay(text))
         }
         Err(Refusal::OutOfMemory) => Err(OutOfMemory),
@@ -80,30 +55,20 @@ fn inner_answer<P: Peek>(
 }
 
 /// A line of a macro.
-#[tactic(auto, unfolding(crate::specs::MacroLines::inner_line, crate::specs::Frames::framed))]
-fn inner_line<P: Peek>(
-    alloc: Global,
-    mem: &mut P,
-    ctxs: &mut [Context],
-    kdb: &mut Kdb,
-    names: &Symbols,
-    gathering: Gathering,
-    line: &[u8],
-) -> Result<Said, OutOfMemory>
-    requires gathered { gathering.gathered < 2 ^ length ctxs.old }
-    requires current_there_before { kdb.old.current < length ctxs.old }
-    requires current_before { has_bit gathering.gathered kdb.old.current ≡ true }
-    ensures answer { IfOk result (λ said. inner_line gathering line.now (state_of ctxs.old (P.memory mem.old) kdb.old names.now) ≡ record { output = said.text; state = state_of ctxs.new (P.memory mem.new) kdb.new names.now; outcome = said.outcome }) }
-    ensures current_there { kdb.new.current < length ctxs.new }
-    ensures current { has_bit gathering.gathered kdb.new.current ≡ true }
+#[tactic(auto, unfolding(crate::specs::MacroLines::inner_line, crate::specs::Cutting::cut_answer))]
+fn inner_line<P: Peek>(desk: &mut Desk<P>, line: &[u8]) -> Result<Said, OutOfMemory>
+    requires ready { IsReady P.memory desk.old }
+    ensures answer { Says P.memory result desk.old desk.new (inner_line line.now) }
+    ensures ready { IsReady P.memory desk.new }
+    ensures same { IsSameDesk P.rest desk.old desk.new }
 {
-    let Lexed { words, grep } = match lex(alloc, line) {
+    let Lexed { words, grep } = match lex(desk.alloc, line) {
         Ok(lexed) => lexed,
         Err(LexFault::OutOfMemory) => return Err(OutOfMemory),
-        Err(fault) => return uncut(alloc, fault),
+        Err(fault) => return uncut(desk.alloc, fault),
     };
-    let said = inner_answer(alloc, mem, ctxs, kdb, names, gathering, words.as_slice())?;
-    let said = through(alloc, said, grep)?;
+    let said = inner_answer(desk, words.as_slice())?;
+    let said = filtered_output(desk.alloc, said, grep)?;
     Ok(said)
 }
 
@@ -121,25 +86,15 @@ fn lines_of(alloc: Global, macros: &Macros, number: usize) -> Result<Vec<Text>, 
 }
 
 /// Lines of a macro, in order, until one leaves.
-fn run_lines<P: Peek>(
-    alloc: Global,
-    mem: &mut P,
-    ctxs: &mut [Context],
-    kdb: &mut Kdb,
-    names: &Symbols,
-    gathering: Gathering,
-    lines: &[Text],
-) -> Result<Said, OutOfMemory>
-    requires gathered { gathering.gathered < 2 ^ length ctxs.old }
-    requires current_there_before { kdb.old.current < length ctxs.old }
-    requires current_before { has_bit gathering.gathered kdb.old.current ≡ true }
-    ensures answer { IfOk result (λ said. macro_answer gathering lines.now (state_of ctxs.old (P.memory mem.old) kdb.old names.now) ≡ record { output = said.text; state = state_of ctxs.new (P.memory mem.new) kdb.new names.now; outcome = said.outcome }) }
-    ensures current_there { OnOk result (kdb.new.current < length ctxs.new) }
-    ensures current { OnOk result (has_bit gathering.gathered kdb.new.current ≡ true) }
+fn run_lines<P: Peek>(desk: &mut Desk<P>, lines: &[Text]) -> Result<Said, OutOfMemory>
+    requires ready { IsReady P.memory desk.old }
+    ensures answer { Says P.memory result desk.old desk.new (macro_answer lines.now) }
+    ensures ready { IsReady P.memory desk.new }
+    ensures same { IsSameDesk P.rest desk.old desk.new }
 {
-    let mut out = Vec::new(alloc);
+    let mut out = Vec::new(desk.alloc);
     for line in lines {
-        let said = inner_line(alloc, mem, ctxs, kdb, names, gathering, line.as_bytes())?;
+        let said = inner_line(desk, line.as_bytes())?;
         push_bytes(&mut out, said.text.as_bytes())?;
         if !stays(said.outcome) {
             return Ok(Said {
@@ -152,23 +107,13 @@ fn run_lines<P: Peek>(
 }
 
 /// Runs the macro of a number.
-pub fn run_macro<P: Peek>(
-    alloc: Global,
-    mem: &mut P,
-    ctxs: &mut [Context],
-    kdb: &mut Kdb,
-    names: &Symbols,
-    gathering: Gathering,
-    number: usize,
-) -> Result<Said, OutOfMemory>
-    requires gathered { gathering.gathered < 2 ^ length ctxs.old }
-    requires current_there_before { kdb.old.current < length ctxs.old }
-    requires current_before { has_bit gathering.gathered kdb.old.current ≡ true }
-    ensures answer { IfOk result (λ said. macro_answer gathering (lines_in (slice_get kdb.old.macros.macros number)) (state_of ctxs.old (P.memory mem.old) kdb.old names.now) ≡ record { output = said.text; state = state_of ctxs.new (P.memory mem.new) kdb.new names.now; outcome = said.outcome }) }
-    ensures current_there { OnOk result (kdb.new.current < length ctxs.new) }
-    ensures current { OnOk result (has_bit gathering.gathered kdb.new.current ≡ true) }
+pub fn run_macro<P: Peek>(desk: &mut Desk<P>, number: usize) -> Result<Said, OutOfMemory>
+    requires ready { IsReady P.memory desk.old }
+    ensures answer { Says P.memory result desk.old desk.new (macro_answer (lines_in (slice_get desk.old.kdb.now.macros.macros number))) }
+    ensures ready { IsReady P.memory desk.new }
+    ensures same { IsSameDesk P.rest desk.old desk.new }
 {
-    let lines = lines_of(alloc, &kdb.macros, number)?;
-    let said = run_lines(alloc, mem, ctxs, kdb, names, gathering, lines.as_slice())?;
+    let lines = lines_of(desk.alloc, &desk.kdb.macros, number)?;
+    let said = run_lines(desk, lines.as_slice())?;
     Ok(said)
 }

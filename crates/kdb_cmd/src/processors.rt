@@ -1,11 +1,10 @@
-ghost use Rattle.std.specs.Prelude.{◌≡◌, ◌++◌, ◌<◌, ◌^◌, true, length, OnOk, IfOk};
-ghost use Rattle.mach_base.specs.Texts.{has_bit};
-ghost use Rattle.kdb_cmd.specs.State.{state_of};
+ghost use Rattle.std.specs.Prelude.{◌≡◌, ◌++◌, ◌<◌, ◌≤◌, ◌^◌, true, length, OnOk, IfOk};
+ghost use Rattle.std.specs.Bool.{OnTrue};
+ghost use Rattle.mach_base.specs.Masks.{has_bit};
 ghost use Rattle.kdb_cmd.specs.Refused.{Answers};
-ghost use Rattle.kdb_cmd.specs.Processors.{is_gathered, number_text, numbers_text, current_line, available_line, cpu_text, processor_wanted, cpu_chosen, bt_text, processor_frames, frames_below, btc_text};
+ghost use Rattle.kdb_cmd.specs.Processors.{number_text, numbers_text, current_line, available_line, cpu_text, processor_wanted, cpu_chosen, bt_text, processor_frames, frames_below, btc_text};
 
 use crate::Diagnostic;
-use crate::diagnostics::word_at;
 use crate::refusals::Refusal;
 use crate::views::View;
 use hart_ctx::Context;
@@ -17,16 +16,33 @@ use std::alloc::Global;
 use sym_map::Symbols;
 
 /// Whether the processor of this number is in the session.
+#[tactic(auto, using(crate::proofs::Gathered::not_gathered))]
 fn is_gathered(gathered: u64, number: u64) -> bool
-    ensures { result ≡ is_gathered gathered number }
+    ensures value { result ≡ has_bit gathered number }
+    ensures small { OnTrue result (number < 64) }
 {
-    number < 16 && has_bit(gathered, number as u8)
+    number < 64 && has_bit(gathered, number as u8)
 }
 
-/// Appends the number behind those before it, if its processor is in the session.
+/// A number of processors, of which none is left out that a session can have.
+#[tactic(auto, using(crate::proofs::Gathered::all_of_64))]
+fn processor_count(gathered: u64, ctxs: &[Context]) -> u8
+    requires { gathered < 2 ^ length ctxs.now }
+    ensures few { result ≤ 64 }
+    ensures there { result ≤ length ctxs.now }
+    ensures all { gathered < 2 ^ result }
+{
+    if ctxs.len() < 64 {
+        ctxs.len() as u8
+    } else {
+        64
+    }
+}
+
+/// Appends the number after those before it, if its processor is in the session.
 #[tactic(auto, unfolding(crate::specs::Processors::number_text))]
 fn push_number(out: &mut Vec<u8>, gathered: u64, number: u8) -> Result<(), OutOfMemory>
-    requires { number < 16 }
+    requires { number < 64 }
     ensures { OnOk result (out.new.items ≡ out.old.items ++ number_text gathered number out.old.items) }
 {
     if !has_bit(gathered, number) {
@@ -39,12 +55,13 @@ fn push_number(out: &mut Vec<u8>, gathered: u64, number: u8) -> Result<(), OutOf
     Ok(())
 }
 
-/// The numbers of the processors in the session.
-fn numbers(alloc: Global, gathered: u64) -> Result<Vec<u8>, OutOfMemory>
-    ensures { IfOk result (λ out. out.items ≡ numbers_text gathered 16) }
+/// The numbers of the processors in the session, all of which are below this one.
+fn numbers(alloc: Global, gathered: u64, harts: u8) -> Result<Vec<u8>, OutOfMemory>
+    requires { harts ≤ 64 }
+    ensures { IfOk result (λ out. out.items ≡ numbers_text gathered harts) }
 {
     let mut out = Vec::new(alloc);
-    for number in 0..16u8 {
+    for number in 0..harts {
         push_number(&mut out, gathered, number)?;
     }
     Ok(out)
@@ -61,10 +78,16 @@ fn push_current(out: &mut Vec<u8>, number: u64) -> Result<(), OutOfMemory>
 }
 
 #[tactic(auto, unfolding(crate::specs::Processors::available_line))]
-fn push_available(alloc: Global, out: &mut Vec<u8>, gathered: u64) -> Result<(), OutOfMemory>
-    ensures { OnOk result (out.new.items ≡ out.old.items ++ available_line gathered) }
+fn push_available(
+    alloc: Global,
+    out: &mut Vec<u8>,
+    gathered: u64,
+    ctxs: &[Context],
+) -> Result<(), OutOfMemory>
+    requires { gathered < 2 ^ length ctxs.now }
+    ensures { OnOk result (out.new.items ≡ out.old.items ++ available_line gathered (length ctxs.now)) }
 {
-    let numbers = numbers(alloc, gathered)?;
+    let numbers = numbers(alloc, gathered, processor_count(gathered, ctxs))?;
     push_bytes(out, b"Available cpus: ")?;
     push_bytes(out, numbers.as_slice())?;
     push_newline(out)?;
@@ -73,23 +96,23 @@ fn push_available(alloc: Global, out: &mut Vec<u8>, gathered: u64) -> Result<(),
 
 /// `cpu`: the current processor, and those in the session.
 #[tactic(auto, unfolding(crate::specs::Processors::cpu_text))]
-fn cpu_text(alloc: Global, gathered: u64, current: u8) -> Result<Text, OutOfMemory>
-    ensures { IfOk result (λ text. text ≡ cpu_text gathered current) }
+pub fn cpu_list<P: Peek>(alloc: Global, view: &View<P>, gathered: u64) -> Result<Text, OutOfMemory>
+    requires { gathered < 2 ^ length view.now.harts }
+    ensures { IfOk result (λ text. text ≡ cpu_text gathered view.now) }
 {
     let mut out = Vec::new(alloc);
-    push_current(&mut out, u64::from(current))?;
-    push_available(alloc, &mut out, gathered)?;
+    push_current(&mut out, u64::from(view.kdb.current))?;
+    push_available(alloc, &mut out, gathered, view.ctxs)?;
     Ok(Text::from_vec(out))
 }
 
 /// The processor that the argument of `cpu N` names; it is in the session.
 #[tactic(auto, unfolding(crate::specs::Processors::processor_wanted))]
-fn processor_wanted(gathered: u64, words: &[Text]) -> Result<u8, Diagnostic>
-    ensures value { result ≡ processor_wanted gathered words.now }
-    ensures few { IfOk result (λ number. number < 16) }
+fn processor_wanted(gathered: u64, word: &[u8]) -> Result<u8, Diagnostic>
+    ensures value { result ≡ processor_wanted gathered word.now }
     ensures gathered { IfOk result (λ number. has_bit gathered number ≡ true) }
 {
-    match parse_number(word_at(words, 1), 10) {
+    match parse_number(word, 10) {
         Ok(number) => {
             if is_gathered(gathered, number) {
                 Ok(number as u8)
@@ -101,28 +124,20 @@ fn processor_wanted(gathered: u64, words: &[Text]) -> Result<u8, Diagnostic>
     }
 }
 
-/// What `cpu` prints, and the processor that is current behind it.
+/// What `cpu` prints, and the processor that is current after it.
 #[derive(Debug, Drop)]
 pub struct Chosen {
     pub text: Text,
     pub current: u8,
 }
 
-/// `cpu [N]`, where this processor is current.
+/// `cpu N`, where these processors are in the session.
 #[tactic(auto, unfolding(crate::specs::Processors::cpu_chosen))]
-pub fn cpu(alloc: Global, gathered: u64, current: u8, words: &[Text]) -> Result<Chosen, Refusal>
-    requires { has_bit gathered current ≡ true }
-    ensures answer { Answers result (cpu_chosen gathered current words.now) }
+pub fn cpu(alloc: Global, gathered: u64, word: &[u8]) -> Result<Chosen, Refusal>
+    ensures answer { Answers result (cpu_chosen gathered word.now) }
     ensures gathered { IfOk result (λ chosen. has_bit gathered chosen.current ≡ true) }
 {
-    if words.len() == 1 {
-        let text = cpu_text(alloc, gathered, current)?;
-        return Ok(Chosen { text, current });
-    }
-    if words.len() != 2 {
-        return Err(Refusal::Diagnosed(Diagnostic::WrongArguments));
-    }
-    let number = processor_wanted(gathered, words)?;
+    let number = processor_wanted(gathered, word)?;
     let mut out = Vec::new(alloc);
     push_current(&mut out, u64::from(number))?;
     Ok(Chosen {
@@ -132,13 +147,9 @@ pub fn cpu(alloc: Global, gathered: u64, current: u8, words: &[Text]) -> Result<
 }
 
 /// `bt`: the frames of the current processor.
-#[tactic(auto, unfolding(crate::specs::Processors::bt_text))]
-pub fn bt<P: Peek>(alloc: Global, view: &View<P>, words: &[Text]) -> Result<Text, Refusal>
-    ensures { Answers result (bt_text view.now words.now) }
+pub fn bt<P: Peek>(alloc: Global, view: &View<P>) -> Result<Text, OutOfMemory>
+    ensures { IfOk result (λ text. text ≡ bt_text view.now) }
 {
-    if words.len() != 1 {
-        return Err(Refusal::Diagnosed(Diagnostic::WrongArguments));
-    }
     let mut out = Vec::new(alloc);
     show_frames(view.mem, view.names, view.context(), &mut out)?;
     Ok(Text::from_vec(out))
@@ -158,14 +169,20 @@ fn push_frames<P: Peek>(out: &mut Vec<u8>, view: &View<P>, number: u8) -> Result
     Ok(())
 }
 
-/// The frames of each processor in the session.
+/// The frames of each processor in the session, all of which are below this number.
 #[tactic(auto, using(crate::proofs::Gathered::gathered_there))]
-fn all_frames<P: Peek>(alloc: Global, view: &View<P>, gathered: u64) -> Result<Text, OutOfMemory>
-    requires { gathered < 2 ^ length view.now.harts }
-    ensures { IfOk result (λ text. text ≡ frames_below gathered view.now 16) }
+fn all_frames<P: Peek>(
+    alloc: Global,
+    view: &View<P>,
+    gathered: u64,
+    harts: u8,
+) -> Result<Text, OutOfMemory>
+    requires few { harts ≤ 64 }
+    requires gathered { gathered < 2 ^ length view.now.harts }
+    ensures { IfOk result (λ text. text ≡ frames_below gathered view.now harts) }
 {
     let mut out = Vec::new(alloc);
-    for number in 0..16u8 {
+    for number in 0..harts {
         if has_bit(gathered, number) {
             push_frames(&mut out, view, number)?;
         }
@@ -174,19 +191,10 @@ fn all_frames<P: Peek>(alloc: Global, view: &View<P>, gathered: u64) -> Result<T
 }
 
 /// `btc`: the frames of each processor in the session.
-#[tactic(auto, unfolding(crate::specs::Processors::btc_text))]
-pub fn btc<P: Peek>(
-    alloc: Global,
-    view: &View<P>,
-    gathered: u64,
-    words: &[Text],
-) -> Result<Text, Refusal>
+#[tactic(auto, using(crate::proofs::Gathered::all_frames_there), unfolding(crate::specs::Processors::btc_text))]
+pub fn btc<P: Peek>(alloc: Global, view: &View<P>, gathered: u64) -> Result<Text, OutOfMemory>
     requires { gathered < 2 ^ length view.now.harts }
-    ensures { Answers result (btc_text gathered view.now words.now) }
+    ensures { IfOk result (λ text. text ≡ btc_text gathered view.now) }
 {
-    if words.len() != 1 {
-        return Err(Refusal::Diagnosed(Diagnostic::WrongArguments));
-    }
-    let text = all_frames(alloc, view, gathered)?;
-    Ok(text)
+    all_frames(alloc, view, gathered, processor_count(gathered, view.ctxs))
 }

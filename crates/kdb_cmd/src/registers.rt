@@ -1,28 +1,26 @@
-ghost use Rattle.std.specs.Prelude.{◌≡◌, ◌<◌, length, IfOk};
+ghost use Rattle.std.specs.Prelude.{◌≡◌, IfOk};
 ghost use Rattle.hart_ctx.specs.RegisterName.{IsRegister};
-ghost use Rattle.kdb_cmd.specs.State.{state_of};
-ghost use Rattle.kdb_cmd.specs.Refused.{Answers, Changes};
-ghost use Rattle.kdb_cmd.specs.Registers.{rd_text, register_argument, rm_wanted, rm_answer};
+ghost use Rattle.kdb_reg.specs.Registers.{registers_text};
+ghost use Rattle.kdb_cmd.specs.Desk.{IsReady, IsSameDesk, Changes};
+ghost use Rattle.kdb_cmd.specs.Answer.{current_context};
+ghost use Rattle.kdb_cmd.specs.Registers.{register_argument, rm_wanted, rm_answer};
 
 use crate::arguments::argument;
-use crate::diagnostics::word_at;
+use crate::desk::Desk;
+use crate::outcomes::stay;
 use crate::refusals::Refusal;
 use crate::views::View;
-use crate::{Diagnostic, Kdb, Outcome, Said};
-use hart_ctx::{Context, RegName, reg_of};
+use crate::words::word_at;
+use crate::{Diagnostic, Said};
+use hart_ctx::{RegName, reg_of};
 use kdb_reg::{RegFault, set_reg, show_regs};
-use mach_base::{Peek, Text};
+use mach_base::{OutOfMemory, Peek, Text};
 use std::alloc::Global;
-use sym_map::Symbols;
 
-/// `rd`.
-#[tactic(auto, unfolding(crate::specs::Registers::rd_text))]
-pub fn rd<P: Peek>(alloc: Global, view: &View<P>, words: &[Text]) -> Result<Text, Refusal>
-    ensures { Answers result (rd_text view.now words.now) }
+/// `rd`: the registers of the current processor.
+pub fn rd<P: Peek>(alloc: Global, view: &View<P>) -> Result<Text, OutOfMemory>
+    ensures { IfOk result (λ text. text ≡ registers_text (current_context view.now)) }
 {
-    if words.len() != 1 {
-        return Err(Refusal::Diagnosed(Diagnostic::WrongArguments));
-    }
     let mut out = Vec::new(alloc);
     show_regs(view.context(), &mut out)?;
     Ok(Text::from_vec(out))
@@ -52,9 +50,6 @@ fn rm_wanted<P: Peek>(view: &View<P>, words: &[Text]) -> Result<RegisterWrite, D
     ensures value { result ≡ rm_wanted view.now words.now }
     ensures register { IfOk result (λ w. IsRegister w.reg) }
 {
-    if words.len() != 3 {
-        return Err(Diagnostic::WrongArguments);
-    }
     let reg = register_argument(words, 1)?;
     let value = argument(view, words, 2)?;
     Ok(RegisterWrite { reg, value })
@@ -62,33 +57,20 @@ fn rm_wanted<P: Peek>(view: &View<P>, words: &[Text]) -> Result<RegisterWrite, D
 
 /// `rm REG E`.
 #[tactic(auto, unfolding(crate::specs::Registers::rm_answer))]
-pub fn rm<P: Peek>(
-    alloc: Global,
-    mem: &P,
-    ctxs: &mut [Context],
-    kdb: &Kdb,
-    names: &Symbols,
-    words: &[Text],
-) -> Result<Said, Refusal>
-    requires { kdb.now.current < length ctxs.old }
-    ensures { Changes result (state_of ctxs.old (P.memory mem.now) kdb.now names.now) (state_of ctxs.new (P.memory mem.now) kdb.now names.now) (rm_answer (state_of ctxs.old (P.memory mem.now) kdb.now names.now) words.now) }
+pub fn rm<P: Peek>(desk: &mut Desk<P>, words: &[Text]) -> Result<Said, Refusal>
+    requires { IsReady P.memory desk.old }
+    ensures answer { Changes P.memory result desk.old desk.new (λ _. rm_answer words.now) }
+    ensures same { IsSameDesk P.rest desk.old desk.new }
+    ensures kdb { desk.new.kdb.now ≡ desk.old.kdb.now }
 {
-    let view = View {
-        mem,
-        ctxs,
-        kdb,
-        names,
-    };
+    let view = desk.view();
     let wanted = rm_wanted(&view, words)?;
     let mut context = *view.context();
-    let mut out = Vec::new(alloc);
+    let mut out = Vec::new(desk.alloc);
     match set_reg(&mut context, &mut out, wanted.reg, wanted.value) {
         Ok(()) => {
-            ctxs[usize::from(kdb.current)] = context;
-            Ok(Said {
-                text: Text::from_vec(out),
-                outcome: Outcome::Stay,
-            })
+            desk.ctxs[usize::from(desk.kdb.current)] = context;
+            Ok(stay(Text::from_vec(out)))
         }
         Err(RegFault::ReadOnly) => Err(Refusal::Diagnosed(Diagnostic::BadRegister(1))),
         Err(RegFault::OutOfMemory) => Err(Refusal::OutOfMemory),

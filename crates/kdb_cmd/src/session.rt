@@ -1,4 +1,5 @@
 ghost use Rattle.std.specs.Prelude.{◌≡◌, [], None, false, replicate, IfOk};
+ghost use Rattle.mach_base.specs.declared.limits.TheConstants.{PLACES};
 ghost use Rattle.kdb_env.specs.Variables.{defaults};
 
 use kdb_bp::Breaks;
@@ -27,7 +28,7 @@ pub struct Kdb {
 impl Kdb {
     /// The start: no breakpoints, the variables' defaults, no macros, and processor 0.
     pub fn new(alloc: Global) -> Result<Kdb, OutOfMemory>
-        ensures breaks { IfOk result (λ kdb. kdb.breaks ≡ replicate 16 None) }
+        ensures breaks { IfOk result (λ kdb. kdb.breaks ≡ replicate PLACES None) }
         ensures env { IfOk result (λ kdb. kdb.env ≡ defaults) }
         ensures macros { IfOk result (λ kdb. kdb.macros ≡ record { macros = []; defining = false }) }
         ensures current { IfOk result (λ kdb. kdb.current ≡ 0) }

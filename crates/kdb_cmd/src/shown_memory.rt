@@ -1,12 +1,12 @@
-ghost use Rattle.std.specs.Prelude.{◌≡◌, ◌≤◌, IfOk, IfSome};
-ghost use Rattle.kdb_mem.specs.Range.{IsWidth};
+ghost use Rattle.std.specs.Prelude.{◌≡◌, ◌≤◌, IfOk};
+ghost use Rattle.mach_base.specs.Bytes.{IsWidth};
 ghost use Rattle.kdb_cmd.specs.Refused.{Answers};
-ghost use Rattle.kdb_cmd.specs.Arguments.{count_argument, lines_wanted};
 ghost use Rattle.kdb_cmd.specs.ShownMemory.{words_shown, bytes_shown, near_shown, md_text, md_count_text, mdr_text, mds_text};
 
 use crate::Diagnostic;
-use crate::arguments::{argument, count_argument, lines_wanted};
+use crate::arguments::{Values, count_wanted, lines_wanted};
 use crate::refusals::Refusal;
+use crate::sizes::{spelled_count, spelled_width};
 use crate::views::View;
 use kdb_mem::{MemFault, raw, show, syms};
 use mach_base::{Peek, Text};
@@ -53,22 +53,15 @@ fn bytes_shown<P: Peek>(alloc: Global, mem: &P, addr: u64, count: u32) -> Result
 pub fn md<P: Peek>(
     alloc: Global,
     view: &View<P>,
-    width: Option<u8>,
-    words: &[Text],
+    width: u8,
+    values: Values,
 ) -> Result<Text, Refusal>
-    requires { IfSome width IsWidth }
-    ensures { Answers result (md_text view.now width words.now) }
+    requires { IsWidth width }
+    ensures { Answers result (md_text view.now width values) }
 {
-    let lines = lines_wanted(view, words)?;
-    let width = view.width_or(width);
-    let text = words_shown(
-        alloc,
-        view.mem,
-        lines.addr,
-        width,
-        lines.count * 16 / u32::from(width),
-    )?;
-    Ok(text)
+    let lines = lines_wanted(view, values.second)?;
+    let count = lines * 16 / u32::from(width);
+    words_shown(alloc, view.mem, values.address(), width, count)
 }
 
 /// `mdWcN E`.
@@ -76,36 +69,30 @@ pub fn md<P: Peek>(
 pub fn md_count<P: Peek>(
     alloc: Global,
     view: &View<P>,
-    width: u8,
-    count: Option<u32>,
-    words: &[Text],
+    word: &[u8],
+    values: Values,
 ) -> Result<Text, Refusal>
-    requires { IsWidth width }
-    ensures { Answers result (md_count_text view.now width count words.now) }
+    ensures { Answers result (md_count_text view.now word.now values) }
 {
-    if words.len() != 2 {
-        return Err(Refusal::Diagnosed(Diagnostic::WrongArguments));
-    }
-    let addr = argument(view, words, 1)?;
-    let Some(count) = count else {
+    let Some(count) = spelled_count(word) else {
         return Err(Refusal::Diagnosed(Diagnostic::BadCount));
     };
-    let text = words_shown(alloc, view.mem, addr, width, count)?;
-    Ok(text)
+    words_shown(
+        alloc,
+        view.mem,
+        values.address(),
+        spelled_width(word),
+        count,
+    )
 }
 
 /// `mdr E E`.
 #[tactic(auto, unfolding(crate::specs::ShownMemory::mdr_text))]
-pub fn mdr<P: Peek>(alloc: Global, view: &View<P>, words: &[Text]) -> Result<Text, Refusal>
-    ensures { Answers result (mdr_text view.now words.now) }
+pub fn mdr<P: Peek>(alloc: Global, view: &View<P>, values: Values) -> Result<Text, Refusal>
+    ensures { Answers result (mdr_text view.now values) }
 {
-    if words.len() != 3 {
-        return Err(Refusal::Diagnosed(Diagnostic::WrongArguments));
-    }
-    let addr = argument(view, words, 1)?;
-    let count = count_argument(view, words, 2, 4096)?;
-    let text = bytes_shown(alloc, view.mem, addr, count)?;
-    Ok(text)
+    let count = count_wanted(values.second.unwrap_or(0), 4096)?;
+    bytes_shown(alloc, view.mem, values.address(), count)
 }
 
 /// This many words of eight bytes, with the symbols that they are near.
@@ -130,10 +117,9 @@ fn near_shown<P: Peek>(
 
 /// `mds E [E]`.
 #[tactic(auto, unfolding(crate::specs::ShownMemory::mds_text))]
-pub fn mds<P: Peek>(alloc: Global, view: &View<P>, words: &[Text]) -> Result<Text, Refusal>
-    ensures { Answers result (mds_text view.now words.now) }
+pub fn mds<P: Peek>(alloc: Global, view: &View<P>, values: Values) -> Result<Text, Refusal>
+    ensures { Answers result (mds_text view.now values) }
 {
-    let lines = lines_wanted(view, words)?;
-    let text = near_shown(alloc, view.mem, view.names, lines.addr, lines.count)?;
-    Ok(text)
+    let lines = lines_wanted(view, values.second)?;
+    near_shown(alloc, view.mem, view.names, values.address(), lines)
 }

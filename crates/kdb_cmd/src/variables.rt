@@ -1,13 +1,13 @@
-ghost use Rattle.std.specs.Prelude.{◌≡◌, ◌==◌, ◌<◌, ◌++◌, length, position, OnOk, MatchOption, MatchResult, IfOk, IfErr, Ok, None};
-ghost use Rattle.kdb_cmd.specs.Refused.{Answers, Refuses};
-ghost use Rattle.kdb_cmd.specs.Variables.{variable_line, first_lines, variables_text, env_text, assignment_of, pair_wanted, env_diagnostic, variables_set};
+ghost use Rattle.std.specs.Prelude.{◌≡◌, ◌==◌, ◌<◌, ◌++◌, length, position, OnOk, MatchOption, MatchResult, IfOk, Ok, None};
+ghost use Rattle.kdb_cmd.specs.Refused.{Refuses};
+ghost use Rattle.kdb_cmd.specs.Words.{word_at};
+ghost use Rattle.kdb_cmd.specs.Variables.{variable_line, first_lines, variables_text, assignment_of, env_diagnostic, variables_set};
 
 use crate::Diagnostic;
-use crate::diagnostics::word_at;
 use crate::refusals::Refusal;
-use crate::views::View;
+use crate::words::word_at;
 use kdb_env::{Env, EnvFault};
-use mach_base::{OutOfMemory, Peek, Text, push_bytes, push_newline};
+use mach_base::{OutOfMemory, Text, push_bytes, push_newline};
 use std::alloc::Global;
 use std::marker::Model;
 
@@ -38,11 +38,10 @@ fn push_variable(out: &mut Vec<u8>, name: &[u8], value: &[u8]) -> Result<(), Out
     Ok(())
 }
 
-/// A line for each variable, in order.
+/// `env`: a line for each variable, in order.
 #[tactic(auto, unfolding(crate::specs::Variables::variables_text))]
-fn variables_text(alloc: Global, env: &Env) -> Result<Text, Refusal>
-    ensures ok { IfOk result (λ text. text ≡ variables_text env.now) }
-    ensures err { IfErr result (λ refusal. refusal ≡ Refusal.OutOfMemory) }
+pub fn env(alloc: Global, env: &Env) -> Result<Text, OutOfMemory>
+    ensures { IfOk result (λ text. text ≡ variables_text env.now) }
 {
     let mut out = Vec::new(alloc);
     let mut place = 0;
@@ -51,18 +50,6 @@ fn variables_text(alloc: Global, env: &Env) -> Result<Text, Refusal>
         place += 1;
     }
     Ok(Text::from_vec(out))
-}
-
-/// `env`.
-#[tactic(auto, unfolding(crate::specs::Variables::env_text))]
-pub fn env<P: Peek>(alloc: Global, view: &View<P>, words: &[Text]) -> Result<Text, Refusal>
-    ensures { Answers result (env_text view.now words.now) }
-{
-    if words.len() != 1 {
-        return Err(Refusal::Diagnosed(Diagnostic::WrongArguments));
-    }
-    let text = variables_text(alloc, &view.kdb.env)?;
-    Ok(text)
 }
 
 /// The place of the first `=`.
@@ -74,8 +61,8 @@ fn equals_place(word: &[u8]) -> Option<usize>
     word.iter().position(|byte| *byte == b'=')
 }
 
-/// The name before the first `=` of a word, and the value behind it.
-fn assignment_of(word: &[u8]) -> Result<Assignment<'_>, Diagnostic>
+/// The name before the first `=` of a word, and the value after it.
+pub fn assignment_of(word: &[u8]) -> Result<Assignment<'_>, Diagnostic>
     ensures { result ≡ assignment_of word.now }
 {
     match equals_place(word) {
@@ -92,21 +79,14 @@ fn assignment_of(word: &[u8]) -> Result<Assignment<'_>, Diagnostic>
     }
 }
 
-/// The name and the value that `set NAME=VALUE` or `set NAME VALUE` gives.
-#[tactic(auto, unfolding(crate::specs::Variables::pair_wanted))]
-fn pair_wanted(words: &[Text]) -> Result<Assignment<'_>, Diagnostic>
-    ensures { result ≡ pair_wanted words.now }
+/// The name and the value in the second and the third word.
+pub fn two_words(words: &[Text]) -> Assignment<'_>
+    ensures { result ≡ (word_at words.now 1, word_at words.now 2) }
 {
-    if words.len() == 2 {
-        return assignment_of(word_at(words, 1));
+    Assignment {
+        name: word_at(words, 1),
+        value: word_at(words, 2),
     }
-    if words.len() == 3 {
-        return Ok(Assignment {
-            name: word_at(words, 1),
-            value: word_at(words, 2),
-        });
-    }
-    Err(Diagnostic::WrongArguments)
 }
 
 fn env_diagnostic(fault: EnvFault) -> Diagnostic
@@ -121,12 +101,11 @@ fn env_diagnostic(fault: EnvFault) -> Diagnostic
     }
 }
 
-/// `set NAME=VALUE`, `set NAME VALUE`.
+/// `set NAME VALUE`.
 #[tactic(auto, unfolding(crate::specs::Variables::variables_set))]
-pub fn set(env: &mut Env, words: &[Text]) -> Result<(), Refusal>
-    ensures { MatchResult result (λ _. variables_set env.old words.now ≡ Ok env.new) (λ refusal. Refuses refusal (variables_set env.old words.now) × (env.new ≡ env.old)) }
+pub fn set(env: &mut Env, wanted: Assignment<'_>) -> Result<(), Refusal>
+    ensures { MatchResult result (λ _. variables_set env.old wanted.entry ≡ Ok env.new) (λ refusal. Refuses refusal (variables_set env.old wanted.entry) × (env.new ≡ env.old)) }
 {
-    let wanted = pair_wanted(words)?;
     match env.set(wanted.name, wanted.value) {
         Ok(()) => Ok(()),
         Err(EnvFault::OutOfMemory) => Err(Refusal::OutOfMemory),

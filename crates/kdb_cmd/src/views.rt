@@ -17,7 +17,7 @@ impl<'a, P: Peek> Model for View<'a, P> {
     ghost use Rattle.std.specs.Prelude.{◌<◌, length};
     ghost use Rattle.std.specs.Coded.{codes};
     ghost use Rattle.mach_base.specs.Codes.{memory_code};
-    ghost use Rattle.kdb_cmd.specs.LineState.{LineState};
+    ghost use Rattle.mach_base.specs.Machine.{LineState};
     ghost use Rattle.kdb_cmd.specs.State.{state_of};
 
     ghost Value = { LineState };
@@ -30,9 +30,9 @@ impl<'a, P: Peek> Model for View<'a, P> {
 }
 
 impl<P: Peek> View<'_, P> {
-    ghost use Rattle.std.specs.Prelude.{◌≡◌, ◌≤◌, IfSome};
-    ghost use Rattle.kdb_mem.specs.Range.{IsWidth};
-    ghost use Rattle.kdb_cmd.specs.Scope.{line_count_in, width_or};
+    ghost use Rattle.std.specs.Prelude.{◌≡◌, ◌≤◌};
+    ghost use Rattle.mach_base.specs.Bytes.{IsWidth};
+    ghost use Rattle.kdb_cmd.specs.Scope.{line_count_in, width_in};
     ghost use Rattle.hart_ctx.specs.Context.{context_of};
 
     /// The context of the current processor.
@@ -50,16 +50,12 @@ impl<P: Peek> View<'_, P> {
         self.kdb.env.count()
     }
 
-    /// The width that is said, else BYTESPERWORD.
-    pub fn width_or(&self, width: Option<u8>) -> u8
-        requires { IfSome width IsWidth }
-        ensures value { result ≡ width_or self.now.variables width }
+    /// The bytes of a word, where it isn't said: BYTESPERWORD.
+    pub fn width(&self) -> u8
+        ensures value { result ≡ width_in self.now.variables }
         ensures width { IsWidth result }
     {
-        match width {
-            Some(width) => width,
-            None => self.kdb.env.width(),
-        }
+        self.kdb.env.width()
     }
 }
 

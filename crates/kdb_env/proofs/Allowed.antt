@@ -1,14 +1,16 @@
 -- What holds of variables after `set`, and of their values.
 use Rattle.std.proofs.Common.{◌≡◌, ℕ, ◌+◌, Bool, true, false, not, cond, ◌&&◌, List, [], ◌∷◌, length, Option, Some, None, Result, is_some, is_none, nat_le, codes, unwrap_or, refl, sym, ap, subst, ◌∙◌, arith}
-use Rattle.std.specs.List.{AllByRecursion}
+use Rattle.std.specs.List.{AllByRecursion, list_all}
 use Rattle.std.specs.Option.{option_or}
 use Rattle.std.specs.Str.{bytes_eq}
+use Rattle.std.proofs.lemmas.Bool.{and_parts, and_from, false_from_ne_true}
 use Rattle.std.proofs.lemmas.Slice.Eq.{bytes_eq-Decides}
+use Rattle.mach_base.specs.declared.limits.TheConstants.{MOST_VARIABLES}
 use Rattle.mach_base.specs.Number.{number_of}
 use Rattle.mach_base.specs.declared.number.NumFault.{NumFault}
 use Rattle.kdb_env.specs.declared.env_fault.EnvFault.{EnvFault}
 use Rattle.kdb_env.specs.declared.env_fault.EnvFault.TheVariants.{BadName, BadRadix, BadWidth, BadCount, Full}
-use Rattle.kdb_env.specs.Variables.{Variables, value_of, with_value, value_fault, is_name, is_full, is_radix, is_width, is_count, refusal_of, defaults, number_at, AreVariables}
+use Rattle.kdb_env.specs.Variables.{Variables, value_of, with_value, value_fault, is_name, is_full, is_radix, is_width, is_count, refusal_of, defaults, number_at, are_apart, AreVariables}
 
 -- each value is one that its name takes
 abbrev pub AreAllowed : Variables → Type 0
@@ -24,6 +26,48 @@ AreAllowed-with_value (v ∷ vs) name value all here = by (bytes_eq name v.0) re
     by : (t : Bool) → bytes_eq name v.0 ≡ t → AreAllowed (with_value vs name value) → AreAllowed (cond t ((v.0, value) ∷ vs) (v ∷ with_value vs name value))
     by true is rest = (subst (λ (n : List ℕ). value_fault n value ≡ None) (same_name name v.0 is) here, all.1)
     by false is rest = (all.0, rest)
+
+-- names stay names
+named-with_value : (vars : Variables) (name value : List ℕ) → list_all (λ v. is_name v.0) vars ≡ true → is_name name ≡ true → list_all (λ v. is_name v.0) (with_value vars name value) ≡ true
+named-with_value [] name value all here = and_from (is_name name) true here refl
+named-with_value (v ∷ vs) name value all here = by (bytes_eq name v.0) (named-with_value vs name value parts.1 here)
+  where
+    parts : (is_name v.0 ≡ true) × (list_all (λ w. is_name w.0) vs ≡ true)
+    parts = and_parts (is_name v.0) (list_all (λ w. is_name w.0) vs) all
+
+    by : (t : Bool) → list_all (λ w. is_name w.0) (with_value vs name value) ≡ true → list_all (λ w. is_name w.0) (cond t ((v.0, value) ∷ vs) (v ∷ with_value vs name value)) ≡ true
+    by true rest = all
+    by false rest = and_from (is_name v.0) (list_all (λ w. is_name w.0) (with_value vs name value)) parts.0 rest
+
+-- two names that differ do so both ways
+other_way : (a b : List ℕ) → bytes_eq a b ≡ false → bytes_eq b a ≡ false
+other_way a b differ =
+    false_from_ne_true (bytes_eq b a) (λ same. let is : bytes_eq a b ≡ true = (bytes_eq-Decides a b).1 (sym (same_name b a same)) in absurd (cc))
+
+-- the value of another name stays
+value_of-other : (vars : Variables) (name value asked : List ℕ) → bytes_eq asked name ≡ false → value_of (with_value vars name value) asked ≡ value_of vars asked
+value_of-other [] name value asked differ = ap (λ (t : Bool). cond t (Some value) None) differ
+value_of-other (v ∷ vs) name value asked differ = by (bytes_eq name v.0) refl (value_of-other vs name value asked differ)
+  where
+    by : (t : Bool) → bytes_eq name v.0 ≡ t → value_of (with_value vs name value) asked ≡ value_of vs asked → value_of (cond t ((v.0, value) ∷ vs) (v ∷ with_value vs name value)) asked ≡ cond (bytes_eq asked v.0) (Some v.1) (value_of vs asked)
+    by true is rest =
+        let other : bytes_eq asked v.0 ≡ false = subst (λ (n : List ℕ). bytes_eq asked n ≡ false) (same_name name v.0 is) differ in
+        ap (λ (t : Bool). cond t (Some value) (value_of vs asked)) other ∙ sym (ap (λ (t : Bool). cond t (Some v.1) (value_of vs asked)) other)
+    by false is rest = ap (λ (o : Option (List ℕ)). cond (bytes_eq asked v.0) (Some v.1) o) rest
+
+-- names stay apart
+apart-with_value : (vars : Variables) (name value : List ℕ) → are_apart vars ≡ true → are_apart (with_value vars name value) ≡ true
+apart-with_value [] name value apart = refl
+apart-with_value (v ∷ vs) name value apart = by (bytes_eq name v.0) refl (apart-with_value vs name value parts.1)
+  where
+    parts : (is_none (value_of vs v.0) ≡ true) × (are_apart vs ≡ true)
+    parts = and_parts (is_none (value_of vs v.0)) (are_apart vs) apart
+
+    by : (t : Bool) → bytes_eq name v.0 ≡ t → are_apart (with_value vs name value) ≡ true → are_apart (cond t ((v.0, value) ∷ vs) (v ∷ with_value vs name value)) ≡ true
+    by true is rest = apart
+    by false differ rest =
+        let same = value_of-other vs name value v.0 (other_way name v.0 differ) in
+        and_from (is_none (value_of (with_value vs name value) v.0)) (are_apart (with_value vs name value)) (ap (λ (o : Option (List ℕ)). is_none o) same ∙ parts.0) rest
 
 -- the value of a name is one that it takes
 pub value_fault-value_of : (vars : Variables) (name value : List ℕ) → AreAllowed vars → value_of vars name ≡ Some value → value_fault name value ≡ None
@@ -64,7 +108,7 @@ length-with_value (v ∷ vs) name value = by (bytes_eq name v.0) (length-with_va
         deeper true h = omega arith
         deeper false h = omega arith
 
-few_more : (new : Bool) (n m : ℕ) → (new && nat_le 31 n) ≡ false → m ≡ cond new (n + 1) n → nat_le n 31 ≡ true → nat_le m 31 ≡ true
+few_more : (new : Bool) (n m : ℕ) → (new && nat_le MOST_VARIABLES n) ≡ false → m ≡ cond new (n + 1) n → nat_le n MOST_VARIABLES ≡ true → nat_le m MOST_VARIABLES ≡ true
 few_more new n m full is few = grind arith
 
 value_fault-first : (fault rest : Option EnvFault) → option_or fault rest ≡ None → fault ≡ None
@@ -76,6 +120,10 @@ full-last None false e = refl
 full-last None true e = absurd (cc)
 full-last (Some f) full e = absurd (cc)
 
+is_name-passes : (named : Bool) (rest : Option EnvFault) → cond (not named) (Some BadName) rest ≡ None → named ≡ true
+is_name-passes true rest e = refl
+is_name-passes false rest e = absurd (cc)
+
 behind_name : (named : Bool) (rest : Option EnvFault) → cond (not named) (Some BadName) rest ≡ None → rest ≡ None
 behind_name true rest e = e
 behind_name false rest e = absurd (cc)
@@ -86,7 +134,10 @@ AreVariables-with_value vars name value are passes =
     let faults = behind_name (is_name name) (option_or (value_fault name value) (cond (is_full vars name) (Some Full) None)) passes in
     let here = value_fault-first (value_fault name value) (cond (is_full vars name) (Some Full) None) faults in
     let room = full-last (value_fault name value) (is_full vars name) faults in
+    let rest = option_or (value_fault name value) (cond (is_full vars name) (Some Full) None) in
     record {
+      named = named-with_value vars name value are.named (is_name-passes (is_name name) rest passes);
+      apart = apart-with_value vars name value are.apart;
       allowed = AreAllowed-with_value vars name value are.allowed here;
       few = few_more (is_none (value_of vars name)) (length vars) (length (with_value vars name value)) room (length-with_value vars name value) are.few;
       radix = is_some-with_value vars name value (codes "RADIX") are.radix;
@@ -98,6 +149,8 @@ AreVariables-with_value vars name value are passes =
 pub AreVariables-defaults : AreVariables defaults
 unfolding defaults value_fault
 AreVariables-defaults = record {
+  named = refl;
+  apart = refl;
   allowed = (refl, (refl, (refl, (refl, (refl, tt)))));
   few = refl;
   radix = refl;

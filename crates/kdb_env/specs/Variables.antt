@@ -5,6 +5,7 @@ use Rattle.std.specs.Option.{option_or}
 use Rattle.std.specs.Str.{bytes_eq}
 use Rattle.mach_base.specs.Number.{number_of}
 use Rattle.mach_base.specs.declared.number.NumFault.{NumFault}
+use Rattle.mach_base.specs.declared.limits.TheConstants.{MOST_VARIABLES}
 use Rattle.kdb_env.specs.declared.env_fault.EnvFault.{EnvFault}
 use Rattle.kdb_env.specs.declared.env_fault.EnvFault.TheVariants.{BadName, BadRadix, BadWidth, BadCount, Full}
 
@@ -17,11 +18,12 @@ abbrev pub value_of : Variables → List ℕ → Option (List ℕ)
 value_of [] name = None
 value_of (v ∷ vs) name = if bytes_eq name v.0 then Some v.1 else value_of vs name
 
--- the variables once a name has this value: in its own place, or behind all others where it is new
+-- the variables once a name has this value: in its own place, or after all others where it is new
 abbrev pub with_value : Variables → List ℕ → List ℕ → Variables
 with_value [] name value = (name, value) ∷ []
 with_value (v ∷ vs) name value = if bytes_eq name v.0 then (v.0, value) ∷ vs else v ∷ with_value vs name value
 
+-- a letter of ASCII
 abbrev pub is_letter : ℕ → Bool
 is_letter b = (nat_le 65 b && nat_le b 90) || (nat_le 97 b && nat_le b 122)
 
@@ -59,9 +61,9 @@ value_fault name value =
     else if bytes_eq name (codes "MDCOUNT") then (if is_count value then None else Some BadCount)
     else None
 
--- whether there is no room for a name: it is new, and 31 variables stand
+-- whether there is no room for a name: it is new, and there are as many variables as there may be
 abbrev pub is_full : Variables → List ℕ → Bool
-is_full vars name = is_none (value_of vars name) && nat_le 31 (length vars)
+is_full vars name = is_none (value_of vars name) && nat_le MOST_VARIABLES (length vars)
 
 -- the first refusal of a name and a value
 abbrev pub refusal_of : Variables → List ℕ → List ℕ → Option EnvFault
@@ -77,10 +79,18 @@ defaults = (codes "PROMPT", codes "[%d]kdb> ") ∷ (codes "RADIX", codes "16") �
 unfoldable pub number_at : Variables → List ℕ → Result ℕ NumFault
 number_at vars name = number_of 10 (unwrap_or (value_of vars name) [])
 
--- variables that `set` can have made: each with a value that its name takes, at most 31, the checked ones among them
+-- whether no name is there twice
+abbrev pub are_apart : Variables → Bool
+are_apart [] = true
+are_apart (v ∷ vs) = is_none (value_of vs v.0) && are_apart vs
+
+-- Variables as they can be: not too many, with names that are names and differ, each with a value that its name takes,
+-- and the three with checked values among them.
 pub record AreVariables (vars : Variables) : Type 0 where
+  pub few : nat_le (length vars) MOST_VARIABLES ≡ true
+  pub named : list_all (λ v. is_name v.0) vars ≡ true
+  pub apart : are_apart vars ≡ true
   pub allowed : AllByRecursion (λ v. value_fault v.0 v.1 ≡ None) vars
-  pub few : nat_le (length vars) 31 ≡ true
   pub radix : is_some (value_of vars (codes "RADIX")) ≡ true
   pub width : is_some (value_of vars (codes "BYTESPERWORD")) ≡ true
   pub count : is_some (value_of vars (codes "MDCOUNT")) ≡ true

@@ -12,7 +12,7 @@ pub enum EnvFault {
     BadWidth,
     /// MDCOUNT takes a number from 1 to 256.
     BadCount,
-    /// The name is new, and 31 variables stand.
+    /// The name is new, and there are as many variables as there may be.
     Full,
     /// There was no memory for the variable.
     OutOfMemory,

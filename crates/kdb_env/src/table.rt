@@ -10,7 +10,7 @@ use std::alloc::Global;
 /// The variables by name, in the order of insertion.
 pub type Table = IndexMap<Vec<u8>, Vec<u8>>;
 
-/// Gives a name a value: in its place, or behind all others where it is new. A refusal leaves the table.
+/// Gives a name a value: in its place, or after all others where it is new. A refusal leaves the table.
 pub fn put(alloc: Global, table: &mut Table, name: &[u8], value: &[u8]) -> Result<(), OutOfMemory>
     ensures ok { OnOk result (pairs table.new ≡ with_value (pairs table.old) name.now value.now) }
     ensures err { OnErr result (pairs table.new ≡ pairs table.old) }

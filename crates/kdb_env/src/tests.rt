@@ -2,71 +2,43 @@ use super::*;
 use std::test::Fail;
 
 #[test]
-fn begins_with_the_defaults(rt: HostRuntime) -> Result<(), Fail> {
-    let env = Env::new(rt.alloc())?;
-    let table: [(&[u8], &[u8]); 5] = [
-        (b"PROMPT", b"[%d]kdb> "),
-        (b"RADIX", b"16"),
-        (b"MDCOUNT", b"8"),
-        (b"BYTESPERWORD", b"8"),
-        (b"LINES", b"24"),
-    ];
-    for (i, (name, value)) in table.iter().enumerate() {
-        let pair = env.at(i).ok_or("missing")?;
-        assert_eq!(rt; (pair.name, pair.value), (*name, *value));
-    }
-    assert!(rt; env.at(5).is_none());
-    assert_eq!(rt; (env.radix(), env.width(), env.count()), (16, 8, 8));
-    Ok(())
-}
-
-#[test]
-fn sets_in_place_or_behind_the_others(rt: HostRuntime) -> Result<(), Fail> {
+fn sets_in_place_or_after_the_others(rt: HostRuntime) -> Result<(), Fail> {
     let mut env = Env::new(rt.alloc())?;
-    let table: [(&[u8], &[u8]); 5] = [
+    assert_eq!(rt; (env.radix(), env.width(), env.count()), (16, 8, 8));
+    // Each name and value in turn, and whether the variable is set.
+    let table: [(&[u8], &[u8], Result<(), EnvFault>); 9] = [
+        (b"1a", b"1", Err(EnvFault::BadName)),
+        (b"abcdefghijklmnopq", b"1", Err(EnvFault::BadName)),
+        (b"RADIX", b"2", Err(EnvFault::BadRadix)),
+        (b"BYTESPERWORD", b"3", Err(EnvFault::BadWidth)),
+        (b"MDCOUNT", b"257", Err(EnvFault::BadCount)),
+        (b"a_1", b"", Ok(())),
+        (b"MDCOUNT", b"0x10", Ok(())),
+        (b"BYTESPERWORD", b"4", Ok(())),
+        (b"RADIX", b"10", Ok(())),
+    ];
+    for (name, value, want) in table {
+        assert_eq!(rt; env.set(name, value), want);
+    }
+    let copy = env.try_copy(rt.alloc())?;
+    assert_eq!(rt; (copy.radix(), copy.width(), copy.count()), (10, 4, 16));
+    let places: [(&[u8], &[u8]); 6] = [
+        (b"PROMPT", b"[%d]kdb> "),
         (b"RADIX", b"10"),
         (b"MDCOUNT", b"0x10"),
         (b"BYTESPERWORD", b"4"),
+        (b"LINES", b"24"),
         (b"a_1", b""),
-        (b"RADIX", b"8"),
     ];
-    for (name, value) in table {
-        env.set(name, value)?;
+    for (i, (name, value)) in places.iter().enumerate() {
+        let pair = copy.at(i).ok_or("missing")?;
+        assert_eq!(rt; (pair.name, pair.value), (*name, *value));
+        assert_eq!(rt; copy.get(pair.name), Some(*value));
     }
-    let copy = env.try_copy(rt.alloc())?;
-    assert_eq!(rt; (copy.radix(), copy.width(), copy.count()), (8, 4, 16));
-    assert_eq!(rt; copy.at(1).ok_or("missing")?.value, b"8".as_slice());
-    assert_eq!(rt; copy.at(5).ok_or("missing")?.name, b"a_1".as_slice());
-    Ok(())
-}
-
-#[test]
-fn gives_the_first_refusal(rt: HostRuntime) -> Result<(), Fail> {
-    let mut env = Env::new(rt.alloc())?;
-    let table: [(&[u8], &[u8], EnvFault); 9] = [
-        (b"", b"1", EnvFault::BadName),
-        (b"1a", b"1", EnvFault::BadName),
-        (b"a-b", b"1", EnvFault::BadName),
-        (b"abcdefghijklmnopq", b"1", EnvFault::BadName),
-        (b"RADIX", b"2", EnvFault::BadRadix),
-        (b"BYTESPERWORD", b"3", EnvFault::BadWidth),
-        (b"MDCOUNT", b"0", EnvFault::BadCount),
-        (b"MDCOUNT", b"257", EnvFault::BadCount),
-        (b"MDCOUNT", b"1x", EnvFault::BadCount),
-    ];
-    for (name, value, fault) in table {
-        assert_eq!(rt; env.set(name, value), Err(fault));
-    }
-    Ok(())
-}
-
-#[test]
-fn is_full_at_31(rt: HostRuntime) -> Result<(), Fail> {
-    let mut env = Env::new(rt.alloc())?;
-    for letter in b'a'..=b'z' {
+    assert!(rt; copy.at(6).is_none());
+    for letter in b'a'..=b'y' {
         env.set(&[letter], b"")?;
     }
     assert_eq!(rt; env.set(b"A", b""), Err(EnvFault::Full));
-    assert_eq!(rt; env.set(b"z", b"1"), Ok(()));
     Ok(())
 }

@@ -1,20 +1,17 @@
 ghost use Rattle.std.specs.Prelude.{◌≡◌, ◌⊎◌, ◌≤◌, true, Ok, Err, IfOk, OnOk, OnErr, MatchOption, IsOkUnless, slice_get, codes};
 ghost use Rattle.std.specs.Option.{option_copied, option_map};
-ghost use Rattle.kdb_env.specs.Variables.{value_of, with_value, defaults, refusal_of, number_at, is_radix, is_width, is_count};
+ghost use Rattle.kdb_env.specs.Variables.{value_of, with_value, defaults, refusal_of, number_at, is_radix, is_width, is_count, AreVariables};
 ghost use Rattle.mach_base.specs.Number.{number_of};
 
 use crate::EnvFault;
 use crate::checks::{is_name, value_fault};
 use crate::table::{Table, put, value};
 use indexmap::IndexMap;
-use mach_base::{OutOfMemory, parse_number};
+use mach_base::{MOST_VARIABLES, OutOfMemory, parse_number};
 use std::alloc::Global;
 use std::marker::Model;
 
-/// The most variables.
-const VARIABLE_LIMIT: usize = 31;
-
-/// The variables, in the order in which they were first set. At most 31 stand.
+/// The variables, in the order in which they were first set.
 #[derive(Debug, Drop)]
 pub struct Env {
     alloc: Global,
@@ -69,7 +66,7 @@ impl Env {
         value(&self.table, name)
     }
 
-    /// The variable at a place, from 0, in the order in which they were first set; None exactly behind the last one.
+    /// The variable at a place, from 0, in the order in which they were first set; None exactly after the last one.
     pub fn at(&self, i: usize) -> Option<Pair<'_>>
         ensures { option_map (λ pair. (pair.name.now, pair.value.now)) result ≡ slice_get self.now i }
     {
@@ -116,7 +113,7 @@ impl Env {
         }
     }
 
-    /// Sets a variable: in its place where the name is set already, else behind all others. A refusal changes nothing.
+    /// Sets a variable: in its place where the name is set already, else after all others. A refusal changes nothing.
     pub fn set(&mut self, name: &[u8], value: &[u8]) -> Result<(), EnvFault>
         ensures refused { MatchOption (refusal_of self.old name.now value.now) (IsOkUnless result EnvFault.OutOfMemory) (λ fault. result ≡ Err fault) }
         ensures ok { OnOk result (self.new ≡ with_value self.old name.now value.now) }
@@ -130,6 +127,14 @@ impl Env {
         Ok(())
     }
 
+    /// There are never too many variables, their names are names and differ, and the checked ones have values that they
+    /// take. The call does nothing; its contract says so to callers.
+    pub fn keeps_limits(&self)
+        ensures { AreVariables self.now }
+    {
+        let _table = &self.table;
+    }
+
     fn refusal(&self, name: &[u8], new_value: &[u8]) -> Option<EnvFault>
         ensures { result ≡ refusal_of self.now name.now new_value.now }
     {
@@ -140,7 +145,7 @@ impl Env {
         if fault.is_some() {
             return fault;
         }
-        if value(&self.table, name).is_none() && self.table.len() >= VARIABLE_LIMIT {
+        if value(&self.table, name).is_none() && self.table.len() >= MOST_VARIABLES {
             return Some(EnvFault::Full);
         }
         None

@@ -33,7 +33,7 @@ fn is_sign(byte: u8) -> bool
     byte == b'+' || byte == b'-'
 }
 
-/// The place of the first `+` or `-` behind the first byte, counted from the second byte on.
+/// The place of the first `+` or `-` after the first byte, counted from the second byte on.
 #[tactic(auto, using(crate::proofs::Places::sign_place_within))]
 fn sign_place(word: &[u8]) -> Option<usize>
     ensures value { result ≡ sign_place word.now }
@@ -64,12 +64,7 @@ fn atom<N: Names>(names: &N, word: &[u8]) -> Result<u64, EvalFault>
 }
 
 fn register<N: Names>(names: &N, name: &[u8]) -> Option<u64>
-    ensures { result ≡ register_value (record {
-      symbols = N.symbols names.now;
-      registers = N.registers names.now;
-      variables = N.variables names.now;
-      radix = N.base names.now;
-    }) name.now }
+    ensures { result ≡ register_value (N.registers names.now) name.now }
 {
     match name {
         [b'%', ..] => None,
@@ -87,12 +82,7 @@ fn variable<N: Names>(names: &N, name: &[u8]) -> Result<u64, EvalFault>
 }
 
 fn symbol<N: Names>(names: &N, name: &[u8]) -> Option<u64>
-    ensures { result ≡ symbol_value (record {
-      symbols = N.symbols names.now;
-      registers = N.registers names.now;
-      variables = N.variables names.now;
-      radix = N.base names.now;
-    }) name.now }
+    ensures { result ≡ symbol_value (N.symbols names.now) name.now }
 {
     match sign_place(name) {
         Some(_) => None,

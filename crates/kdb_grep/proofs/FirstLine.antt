@@ -1,9 +1,10 @@
 -- The first line of a text, found by its LF.
-use Rattle.std.proofs.Common.{◌≡◌, ℕ, zero, suc, ◌+◌, ◌<◌, inl, Bool, true, false, not, ◌&&◌, List, [], ◌∷◌, ◌++◌, length, take, get_or, eqb, refl, ap, ◌∙◌, arith}
+use Rattle.std.proofs.Common.{◌≡◌, ℕ, zero, suc, ◌+◌, ◌<◌, inl, inr, Bool, true, false, not, ◌&&◌, List, [], ◌∷◌, ◌++◌, length, take, get_or, eqb, refl, ap, ◌∙◌, arith}
 use Rattle.std.specs.List.{list_all}
 use Rattle.std.proofs.lemmas.Bool.{eqb-true}
 use Rattle.std.proofs.lemmas.List.{take_more}
-use Rattle.kdb_grep.specs.Filter.{IsLine, IsFirstLine}
+use Rattle.kdb_grep.specs.Lines.{IsLine}
+use Rattle.kdb_grep.specs.Ends.{EndsLine}
 
 not_true : (b : Bool) → (b ≡ true → ⊥) → not b ≡ true
 not_true true h = absurd (h refl)
@@ -20,6 +21,12 @@ IsLine-take (b ∷ bs) (suc k) h =
     ap (λ (t : Bool). t && list_all (λ x. not (eqb x 10)) (take k bs)) here ∙ rest
 
 -- a line up to an LF
-pub IsFirstLine-at : (text : List ℕ) (k : ℕ) → k < length text → eqb (get_or text k 0) 10 ≡ true → IsFirstLine text k (k + 1)
-IsFirstLine-at text k lt is =
-    inl (refl, take_more text k 0 lt ∙ ap (λ (b : ℕ). take k text ++ b ∷ []) (eqb-true (get_or text k 0) 10 is))
+pub EndsLine-at : (text : List ℕ) (k : ℕ) → k < length text → eqb (get_or text k 0) 10 ≡ true → ((j : ℕ) → j < k → eqb (get_or text j 0) 10 ≡ true → ⊥) → EndsLine text k (k + 1)
+EndsLine-at text k lt is none = record {
+  is = IsLine-take text k none;
+  ends = inl (refl, take_more text k 0 lt ∙ ap (λ (b : ℕ). take k text ++ b ∷ []) (eqb-true (get_or text k 0) 10 is));
+}
+
+-- a line up to the text's end
+pub EndsLine-whole : (text : List ℕ) → ((j : ℕ) → j < length text → eqb (get_or text j 0) 10 ≡ true → ⊥) → EndsLine text (length text) (length text)
+EndsLine-whole text none = record { is = IsLine-take text (length text) none; ends = inr (refl, refl) }

@@ -1,3 +1,3 @@
-pub mod Places
+pub mod Stands
 pub mod Kept
 pub mod FirstLine

@@ -1,8 +1,10 @@
--- The filter of the debugger. docs/debugger.md, "Filter", has the rules.
-use Rattle.std.specs.Prelude.{◌≡◌, ℕ, ◌+◌, ◌-◌, ◌⊎◌, ◌==◌, Bool, true, false, not, List, [], ◌∷◌, ◌++◌, length, take, slice_index, if◌then◌else◌}
-use Rattle.std.specs.List.{list_all}
+-- What the debugger's filter keeps of a text. docs/debugger.md, "Filter", has the rules.
+use Rattle.std.specs.Prelude.{ℕ, ◌-◌, ◌==◌, ◌||◌, Bool, false, List, [], ◌∷◌, ◌++◌, length, take, slice_index, nat_eq, if◌then◌else◌}
+use Rattle.std.specs.List.{starts_with, ends_with, slice_split}
+use Rattle.std.specs.Str.{bytes_eq}
+use Rattle.mach_base.specs.Texts.{newline}
 
--- a pattern: its text, and whether the text must stand at the line's start and at the line's end
+-- a pattern: its text, and whether the text must be at the line's start and at the line's end
 pub record Pattern : Type 0 where
   pub at_start : Bool
   pub text : List ℕ
@@ -18,7 +20,7 @@ abbrev pub last_is : ℕ → List ℕ → Bool
 last_is b [] = false
 last_is b (c ∷ cs) = slice_index (c ∷ cs) (length cs) == b
 
--- the bytes behind a first ^
+-- the bytes after a first ^
 abbrev pub behind_mark : List ℕ → List ℕ
 behind_mark [] = []
 behind_mark (b ∷ bs) = if b == 94 then bs else b ∷ bs
@@ -35,27 +37,24 @@ pattern_of bytes = record {
   at_end = last_is 36 (behind_mark bytes);
 }
 
--- the pattern's text stands in the line, at its start where marked and at its end where marked
-pub record Matches (pattern : Pattern) (line : List ℕ) : Type 0 where
-  pub before : List ℕ
-  pub after : List ℕ
-  pub stands : line ≡ before ++ (pattern.text ++ after)
-  pub start : pattern.at_start ≡ true → before ≡ []
-  pub end : pattern.at_end ≡ true → after ≡ []
+-- whether the text occurs in the line
+abbrev pub stands_in : List ℕ → List ℕ → Bool
+stands_in text [] = starts_with nat_eq [] text
+stands_in text (b ∷ bs) = starts_with nat_eq (b ∷ bs) text || stands_in text bs
 
--- bytes without LF
-abbrev pub IsLine : List ℕ → Type 0
-IsLine line = list_all (λ b. not (b == 10)) line ≡ true
+-- whether the pattern's text occurs in the line, at the ends that are marked
+abbrev pub matches : Pattern → List ℕ → Bool
+matches pattern line =
+    if pattern.at_start
+    then (if pattern.at_end then bytes_eq line pattern.text else starts_with nat_eq line pattern.text)
+    else (if pattern.at_end then ends_with nat_eq line pattern.text else stands_in pattern.text line)
 
--- where the first line of a text ends, without and with its LF: at its LF, or at the text's end
-abbrev pub IsFirstLine : List ℕ → ℕ → ℕ → Type 0
-IsFirstLine text line end =
-    ((end ≡ line + 1) × (take end text ≡ take line text ++ 10 ∷ [])) ⊎ ((line ≡ length text) × (end ≡ length text))
+-- those of the lines that match, each with its LF but for the last one
+abbrev pub kept_of : Pattern → List (List ℕ) → List ℕ
+kept_of pattern [] = []
+kept_of pattern (line ∷ []) = if matches pattern line then line else []
+kept_of pattern (line ∷ next ∷ rest) = (if matches pattern line then line ++ newline else []) ++ kept_of pattern (next ∷ rest)
 
--- the lines of a text that match, in their order and as they stand; the last line may lack its LF
-pub data Filtered (pattern : Pattern) : List ℕ → List ℕ → Type 0 where
-  nothing : Filtered pattern [] []
-  kept : (line rest out : List ℕ) → IsLine line → Matches pattern line → Filtered pattern rest out → Filtered pattern (line ++ 10 ∷ rest) (line ++ 10 ∷ out)
-  dropped : (line rest out : List ℕ) → IsLine line → ¬ (Matches pattern line) → Filtered pattern rest out → Filtered pattern (line ++ 10 ∷ rest) out
-  last_kept : (line : List ℕ) → IsLine line → Matches pattern line → Filtered pattern line line
-  last_dropped : (line : List ℕ) → IsLine line → ¬ (Matches pattern line) → Filtered pattern line []
+-- the lines of the text that match, in their order and as they are; the last line may lack its LF
+unfoldable pub filtered : Pattern → List ℕ → List ℕ
+filtered pattern text = kept_of pattern (slice_split (λ b. b == 10) text)

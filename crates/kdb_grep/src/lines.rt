@@ -1,15 +1,16 @@
-ghost use Rattle.std.specs.Prelude.{◌≤◌, ◌<◌, ◌++◌, List, ℕ, IfOk, length, take, drop};
-ghost use Rattle.kdb_grep.specs.Filter.{IsLine, IsFirstLine, Filtered, pattern_of};
+ghost use Rattle.std.specs.Prelude.{◌≡◌, ◌≤◌, ◌<◌, ◌++◌, IfOk, length, take, drop};
+ghost use Rattle.kdb_grep.specs.Filter.{filtered, pattern_of};
+ghost use Rattle.kdb_grep.specs.Ends.{EndsLine};
 
 use crate::keep;
 use mach_base::OutOfMemory;
 use memchr::memchr;
 use std::alloc::Global;
 
-/// The lines of a text that match the pattern, in their order and as they stand. A last line that lacks its LF gets
+/// The lines of a text that match the pattern, in their order and as they are. A last line that lacks its LF gets
 /// none.
 pub fn filter(alloc: Global, text: &[u8], pattern: &[u8]) -> Result<Vec<u8>, OutOfMemory>
-    ensures { IfOk result (λ out. Filtered (pattern_of pattern.now) text.now out.items) }
+    ensures { IfOk result (λ out. out.items ≡ filtered (pattern_of pattern.now) text.now) }
 {
     let mut out = Vec::new(alloc);
     let mut rest = text;
@@ -26,7 +27,7 @@ pub fn filter(alloc: Global, text: &[u8], pattern: &[u8]) -> Result<Vec<u8>, Out
 /// How much of the first line is kept, all or nothing, and where it ends.
 fn first_kept(text: &[u8], pattern: &[u8]) -> (usize, usize)
     requires { 0 < length text.now }
-    ensures kept { (out : List ℕ) → Filtered (pattern_of pattern.now) (drop result.1 text.now) out → Filtered (pattern_of pattern.now) text.now (take result.0 text.now ++ out) }
+    ensures kept { let p = pattern_of pattern.now in filtered p text.now ≡ take result.0 text.now ++ filtered p (drop result.1 text.now) }
     ensures front { result.0 ≤ result.1 }
     ensures moves { 0 < result.1 }
     ensures within { result.1 ≤ length text.now }
@@ -43,8 +44,7 @@ fn first_kept(text: &[u8], pattern: &[u8]) -> (usize, usize)
 /// The lengths of the first line, without and with its LF.
 fn first_line(text: &[u8]) -> (usize, usize)
     requires { 0 < length text.now }
-    ensures line { IsLine (take result.0 text.now) }
-    ensures end { IsFirstLine text.now result.0 result.1 }
+    ensures end { EndsLine text.now result.0 result.1 }
     ensures front { result.0 ≤ result.1 }
     ensures moves { 0 < result.1 }
     ensures within { result.1 ≤ length text.now }

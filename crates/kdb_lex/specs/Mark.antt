@@ -1,5 +1,5 @@
 -- What each byte of a line is.
-use Rattle.std.specs.Prelude.{ℕ, ◌||◌, ◌==◌, Bool, true, false, not, if◌then◌else◌}
+use Rattle.std.specs.Prelude.{ℕ, ◌==◌, Bool, true, false, not, if◌then◌else◌}
 use Rattle.mach_base.specs.Lines.{is_blank}
 use Rattle.kdb_lex.specs.declared.mark.Mark.{Mark}
 use Rattle.kdb_lex.specs.declared.mark.Mark.TheVariants.{Blank, Pipe, Quote, Byte}
@@ -13,13 +13,14 @@ mark_of quoted b =
     else if b == 124 then Pipe
     else Byte b
 
--- whether the next byte stands inside quotes: a quote turns that round
+-- whether the next byte is inside quotes: a quote turns that round
 abbrev pub is_quoted_after : Bool → Mark → Bool
 is_quoted_after quoted Blank = quoted
 is_quoted_after quoted Pipe = quoted
 is_quoted_after quoted Quote = not quoted
 is_quoted_after quoted (Byte b) = quoted
 
+-- whether it is the pipe
 abbrev pub is_pipe : Mark → Bool
 is_pipe Blank = false
 is_pipe Pipe = true

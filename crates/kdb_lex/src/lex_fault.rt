@@ -6,7 +6,7 @@ ghost use Rattle.kdb_lex.specs.declared.lex_fault.LexFault.TheVariants.{OutOfMem
 pub enum LexFault {
     /// A quoted part isn't closed.
     Unclosed,
-    /// More than 20 words stand before the pipe.
+    /// There are too many words before the pipe.
     TooManyWords,
     /// The pipe has no word before it, or isn't followed by just `grep` and a pattern that isn't empty.
     BadPipe,

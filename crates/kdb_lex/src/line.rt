@@ -1,7 +1,8 @@
-ghost use Rattle.std.specs.Prelude.{◌≡◌, ◌≢◌, ◌⊎◌, ◌++◌, ◌%◌, ◌==◌, true, false, Some, None, IfOk, IfErr, OnOk, MatchOption, count_by};
-ghost use Rattle.std.specs.List.{list_any, before_first, after_first};
+ghost use Rattle.std.specs.Prelude.{◌≡◌, ◌≢◌, ◌⊎◌, ◌++◌, ◌%◌, ◌==◌, false, Some, None, IfOk, IfErr, OnOk, count_by};
+ghost use Rattle.std.specs.List.{before_first};
+ghost use Rattle.std.specs.Option.{option_copied};
 ghost use Rattle.kdb_lex.specs.Mark.{is_pipe};
-ghost use Rattle.kdb_lex.specs.Line.{is_comment, without_comment, marks, words_of, pattern_of, filter_pattern, command_words, line_pattern, refusal_of};
+ghost use Rattle.kdb_lex.specs.Line.{is_comment, without_comment, marks, words_of, FollowsPipe, pattern_of, filter_pattern, command_words, line_pattern, refusal_of};
 
 use crate::LexFault;
 use crate::mark::{Mark, mark_of};
@@ -10,14 +11,14 @@ use mach_base::{OutOfMemory, Text, is_blank};
 use std::alloc::Global;
 
 /// The most words before the pipe, with the command's.
-const WORD_LIMIT: usize = 20;
+pub const MOST_WORDS: usize = 20;
 
 /// The words of a line before its pipe, and the pattern of its filter. docs/debugger.md has the rules.
 #[derive(Debug, Drop)]
 pub struct Lexed {
-    /// The words, the command first, without their quotes. None stand in a comment or a line of blanks.
+    /// The words, the command first, without their quotes. A comment and a line of blanks have none.
     pub words: Vec<Text>,
-    /// The pattern behind the pipe, where there is one; it isn't empty.
+    /// The pattern after the pipe, where there is one; it isn't empty.
     pub grep: Option<Text>,
 }
 
@@ -27,7 +28,7 @@ pub fn lex(alloc: Global, line: &[u8]) -> Result<Lexed, LexFault>
     ensures grep { IfOk result (λ lexed. lexed.grep ≡ line_pattern line.now) }
     ensures ok { OnOk result (refusal_of line.now ≡ None) }
 
-    // Want of memory alone has no cause in the line.
+    // Running out of memory alone has no cause in the line.
     ensures err { IfErr result (λ fault. fault ≢ LexFault.OutOfMemory → refusal_of line.now ≡ Some fault) }
 {
     let line = cut_comment(line);
@@ -36,7 +37,7 @@ pub fn lex(alloc: Global, line: &[u8]) -> Result<Lexed, LexFault>
     }
     let mut words = Vec::new(alloc);
     let behind = push_words(&mut words, line)?;
-    if words.len() > WORD_LIMIT {
+    if words.len() > MOST_WORDS {
         return Err(LexFault::TooManyWords);
     }
     let Some(behind) = behind else {
@@ -77,10 +78,10 @@ fn has_open_quote(line: &[u8]) -> bool
     line.iter().filter(|byte| **byte == b'"').count() % 2 == 1
 }
 
-/// Appends the words before the first pipe, and gives what stands behind it.
+/// Appends the words before the first pipe, and gives what follows it.
 fn push_words<'a>(words: &mut Vec<Text>, line: &'a [u8]) -> Result<Option<&'a [u8]>, OutOfMemory>
     ensures words { OnOk result (words.new.items ≡ words.old.items ++ words_of (before_first is_pipe (marks false line.now))) }
-    ensures behind { IfOk result (λ behind. MatchOption behind (list_any is_pipe (marks false line.now) ≡ false) (λ rest. (list_any is_pipe (marks false line.now) ≡ true) × (marks false rest.now ≡ after_first is_pipe (marks false line.now)))) }
+    ensures behind { IfOk result (λ behind. FollowsPipe (marks false line.now) (option_copied behind)) }
 {
     let mut word = Word::new(*words.allocator());
     let mut quoted = false;
@@ -103,7 +104,7 @@ fn push_words<'a>(words: &mut Vec<Text>, line: &'a [u8]) -> Result<Option<&'a [u
     Ok(None)
 }
 
-/// The pattern of the filter that stands behind a pipe.
+/// The pattern of the filter that follows a pipe.
 fn filter(alloc: Global, line: &[u8]) -> Result<Text, LexFault>
     ensures ok { IfOk result (λ pattern. filter_pattern (marks false line.now) ≡ Some pattern) }
     ensures err { IfErr result (λ fault. (fault ≡ LexFault.OutOfMemory) ⊎ ((fault ≡ LexFault.BadPipe) × (filter_pattern (marks false line.now) ≡ None))) }

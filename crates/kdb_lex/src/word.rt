@@ -33,7 +33,7 @@ impl Word {
         }
     }
 
-    /// A quote stands here: a word has begun, if it hadn't.
+    /// Here is a quote: a word has begun, if it hadn't.
     pub fn begin(&mut self)
         ensures { self.new ≡ Some (unwrap_or self.old []) }
     {
@@ -48,7 +48,7 @@ impl Word {
         Ok(())
     }
 
-    /// The word ends here: it goes behind the others, if one had begun.
+    /// The word ends here: it goes after the others, if one had begun.
     pub fn end(&mut self, words: &mut Vec<Text>) -> Result<(), OutOfMemory>
         ensures words { OnOk result (words.new.items ≡ words.old.items ++ option_to_list self.old) }
         ensures none { OnOk result (self.new ≡ None) }

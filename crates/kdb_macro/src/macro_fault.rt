@@ -10,7 +10,7 @@ pub enum MacroFault {
     Reserved,
     /// A macro has the name.
     Duplicate,
-    /// 32 macros stand, or the macro has 32 lines.
+    /// There are as many macros as there may be, or the macro has as many lines as it may have.
     Full,
     /// There was no memory.
     OutOfMemory,

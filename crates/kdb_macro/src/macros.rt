@@ -3,12 +3,9 @@ ghost use Rattle.std.specs.Prelude.{◌≡◌, IfOk};
 use crate::MacroFault;
 use crate::lines::Lines;
 use crate::search::{begin_refusal, copied, named, push};
-use mach_base::OutOfMemory;
+use mach_base::{MACRO_LINES, OutOfMemory};
 use std::alloc::Global;
 use std::marker::Model;
-
-/// The most lines of a macro.
-const LIMIT: usize = 32;
 
 /// The macros in the order in which they were begun, and whether the last one is being defined.
 #[derive(Debug, Drop)]
@@ -19,20 +16,19 @@ pub struct Macros {
 }
 
 impl Model for Macros {
-    ghost use Rattle.std.specs.Prelude.{◌≡◌, ◌<◌, true, length};
-    ghost use Rattle.kdb_macro.specs.Macros.{MacroList};
+    ghost use Rattle.kdb_macro.specs.Macros.{MacroList, AreMacros};
 
     ghost Value = { MacroList };
 
     ghost view = { λ m. record { macros = m.macros.items; defining = m.defining } };
 
-    ghost invariant = { λ m. m.defining ≡ true → 0 < length m.macros.items };
+    ghost invariant = { λ m. AreMacros (record { macros = m.macros.items; defining = m.defining }) };
 }
 
 impl Macros {
     ghost use Rattle.std.specs.Prelude.{[], true, false, Err, OnOk, OnErr, MatchOption, IsOkUnless, slice_get};
     ghost use Rattle.std.specs.Option.{option_copied};
-    ghost use Rattle.kdb_macro.specs.Macros.{named, line_in, begin_refusal, begun, add_refusal, with_line};
+    ghost use Rattle.kdb_macro.specs.Macros.{AreMacros, named, line_in, begin_refusal, begun, add_refusal, with_line};
 
     /// No macros.
     pub fn new(alloc: Global) -> Result<Macros, OutOfMemory>
@@ -97,7 +93,7 @@ impl Macros {
         Ok(())
     }
 
-    /// Appends a line to the macro that is being defined. Full comes exactly where it has 32. A refusal changes nothing.
+    /// Appends a line to the macro that is being defined. Full comes exactly where it has `MACRO_LINES` of them. A refusal changes nothing.
     pub fn add(&mut self, line: &[u8]) -> Result<(), MacroFault>
         requires { self.old.defining ≡ true }
         ensures refused { MatchOption (add_refusal self.old.macros) (IsOkUnless result MacroFault.OutOfMemory) (λ fault. result ≡ Err fault) }
@@ -105,11 +101,19 @@ impl Macros {
         ensures err { OnErr result (self.new ≡ self.old) }
     {
         let last = self.macros.len() - 1;
-        if self.macros[last].len() >= LIMIT {
+        if self.macros[last].len() >= MACRO_LINES {
             return Err(MacroFault::Full);
         }
         self.macros[last].push(self.alloc, line)?;
         Ok(())
+    }
+
+    /// There are never too many macros, and none has too many lines. The call does nothing; its contract says so to
+    /// callers.
+    pub fn keeps_limits(&self)
+        ensures { AreMacros self.now }
+    {
+        let _macros = &self.macros;
     }
 
     /// The macro that was being defined is whole.

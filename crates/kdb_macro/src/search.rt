@@ -5,11 +5,8 @@ ghost use Rattle.kdb_macro.specs.Macros.{is_named, named, begin_refusal};
 use crate::MacroFault;
 use crate::lines::Lines;
 use kdb_env::is_name;
-use mach_base::OutOfMemory;
+use mach_base::{MOST_MACROS, OutOfMemory};
 use std::alloc::Global;
-
-/// The most macros.
-const LIMIT: usize = 32;
 
 /// The number of the macro of this name.
 pub fn named(macros: &[Lines], name: &[u8]) -> Option<usize>
@@ -32,7 +29,7 @@ pub fn begin_refusal(macros: &[Lines], name: &[u8], reserved: bool) -> Option<Ma
     if has(macros, name) {
         return Some(MacroFault::Duplicate);
     }
-    if macros.len() >= LIMIT {
+    if macros.len() >= MOST_MACROS {
         return Some(MacroFault::Full);
     }
     None

@@ -7,7 +7,7 @@ use Rattle.std.specs.Bool.{OnTrue}
 use Rattle.std.specs.Cmp.{nat_cmp_total}
 use Rattle.mach_base.specs.Machine.{Memory, byte_at}
 use Rattle.kdb_mem.specs.Range.{is_unmapped, first_unmapped}
-use Rattle.kdb_mem.specs.Changed.{with_bytes, with_value}
+use Rattle.mach_base.specs.Bytes.{with_bytes, with_value}
 
 find_none : (b : Bool) (addr : ℕ) (rest : Option ℕ) → cond b (Some addr) rest ≡ None → (b ≡ false) × (rest ≡ None)
 find_none true addr rest h = absurd (cc)

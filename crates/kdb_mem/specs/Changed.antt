@@ -1,7 +1,5 @@
--- What a write to memory prints and leaves, and when it is refused.
-use Rattle.std.specs.Prelude.{ℕ, zero, suc, ◌+◌, ◌*◌, ◌/◌, ◌%◌, ◌^◌, nat_lt, List, ◌++◌, codes, Option, Some, None, if◌then◌else◌}
-use Rattle.std.specs.Ordering.{nat_cmp}
-use Rattle.std.specs.FinMap.{FinMap, insert}
+-- What a write to memory prints, and when it is refused. `with_value` of mach_base says what it leaves.
+use Rattle.std.specs.Prelude.{ℕ, ◌*◌, ◌^◌, nat_lt, List, ◌++◌, codes, Option, Some, None, if◌then◌else◌}
 use Rattle.mach_base.specs.Texts.{newline, address_text}
 use Rattle.mach_base.specs.Machine.{Memory}
 use Rattle.kdb_mem.specs.declared.mem_fault.MemFault.{MemFault}
@@ -20,15 +18,6 @@ address_or None other = other
 -- the first refusal of a write of the value in `width` bytes at the address
 abbrev pub modify_refusal : Memory → ℕ → ℕ → ℕ → Option MemFault
 modify_refusal m addr width value = address_or (first_unmapped m addr width) (width_refusal width value)
-
--- the map in which the lowest `width` bytes of the value stand from the address on, little-endian
-abbrev pub with_bytes : FinMap nat_cmp ℕ → ℕ → ℕ → ℕ → FinMap nat_cmp ℕ
-with_bytes bytes addr zero value = bytes
-with_bytes bytes addr (suc n) value = insert (with_bytes bytes addr n value) (addr + n) (value / 2 ^ (8 * n) % 256)
-
--- the memory in which they stand
-abbrev pub with_value : Memory → ℕ → ℕ → ℕ → Memory
-with_value m addr width value = record m { bytes = with_bytes m.bytes addr width value }
 
 -- the line that says which value was written where
 unfoldable pub modify_text : ℕ → ℕ → List ℕ

@@ -3,12 +3,12 @@ use Rattle.std.specs.Prelude.{ℕ, zero, suc, ◌+◌, ◌*◌, ◌/◌, ◌%◌
 use Rattle.mach_base.specs.Number.{hex_text}
 use Rattle.mach_base.specs.Texts.{newline, address_text}
 use Rattle.mach_base.specs.Machine.{Memory, Symbol}
+use Rattle.mach_base.specs.Bytes.{byte_or_zero, number_in}
 use Rattle.sym_map.specs.Texts.{name_text}
-use Rattle.kdb_mem.specs.Range.{byte_or_zero, number_at}
 
 -- a word after a blank: its value, in two digits a byte
 unfoldable pub word_text : Memory → ℕ → ℕ → List ℕ
-word_text m addr width = codes " " ++ hex_text (2 * width) (number_at m addr width)
+word_text m addr width = codes " " ++ hex_text (2 * width) (number_in m addr width)
 
 -- this many words from the address on
 abbrev pub words_text : Memory → ℕ → ℕ → ℕ → List ℕ
@@ -55,7 +55,7 @@ raw_text m addr count = byte_digits m addr count ++ newline
 -- a line of one word of 8 bytes: its address, its value, and the symbol that the value is near
 unfoldable pub symbol_line : Memory → List Symbol → ℕ → List ℕ
 symbol_line m symbols addr =
-    address_text addr ++ (word_text m addr 8 ++ (name_text symbols (number_at m addr 8) ++ newline))
+    address_text addr ++ (word_text m addr 8 ++ (name_text symbols (number_in m addr 8) ++ newline))
 
 -- this many such lines from the address on
 abbrev pub syms_text : Memory → List Symbol → ℕ → ℕ → List ℕ

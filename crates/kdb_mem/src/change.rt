@@ -1,7 +1,8 @@
 ghost use Rattle.std.specs.Prelude.{◌≡◌, ◌*◌, ◌+◌, ◌<◌, ◌^◌, ◌++◌, nat_lt, Err, None, IfNone, OnOk, OnErr, IsOkUnless, MatchOption};
 ghost use Rattle.kdb_mem.specs.declared.mem_fault.MemFault.TheVariants.{OutOfMemory};
-ghost use Rattle.kdb_mem.specs.Range.{IsWidth, first_unmapped};
-ghost use Rattle.kdb_mem.specs.Changed.{width_refusal, modify_refusal, with_value, modify_text};
+ghost use Rattle.mach_base.specs.Bytes.{IsWidth, with_value};
+ghost use Rattle.kdb_mem.specs.Range.{first_unmapped};
+ghost use Rattle.kdb_mem.specs.Changed.{width_refusal, modify_refusal, modify_text};
 
 use crate::MemFault;
 use crate::range::first_unmapped;
@@ -9,7 +10,7 @@ use mach_base::{Peek, push_address, push_bytes, push_newline};
 
 /// Writes the value in `width` bytes at `addr`, little-endian, and appends the line that says so: both as addresses.
 /// BadAddr comes exactly where not all of the bytes are mapped, and else TooWide exactly where the value needs more of
-/// them. A refusal leaves memory and `out` as they were.
+/// them. A refusal leaves memory and `out` as they were; what else `mem` holds stays in any case.
 pub fn modify<P: Peek>(
     mem: &mut P,
     out: &mut Vec<u8>,
@@ -23,6 +24,7 @@ pub fn modify<P: Peek>(
     ensures written { OnOk result (P.memory mem.new ≡ with_value (P.memory mem.old) addr width value) }
     ensures same_text { OnErr result (out.new.items ≡ out.old.items) }
     ensures same_memory { OnErr result (mem.new ≡ mem.old) }
+    ensures rest { P.rest mem.new ≡ P.rest mem.old }
 {
     match modify_refusal(mem, addr, width, value) {
         Some(fault) => return Err(fault),
@@ -75,7 +77,8 @@ fn write<P: Peek>(mem: &mut P, addr: u64, width: u8, value: u64)
     requires width { IsWidth width }
     requires mapped { first_unmapped (P.memory mem.old) addr width ≡ None }
     requires low { addr < 2 ^ 63 }
-    ensures { P.memory mem.new ≡ with_value (P.memory mem.old) addr width value }
+    ensures written { P.memory mem.new ≡ with_value (P.memory mem.old) addr width value }
+    ensures rest { P.rest mem.new ≡ P.rest mem.old }
 {
     for i in 0..width {
         let byte = (value >> (8 * u32::from(i))) % 256;

@@ -1,6 +1,7 @@
 ghost use Rattle.std.specs.Prelude.{◌≡◌, ◌+◌, ◌*◌, ◌/◌, ◌%◌, ◌<◌, ◌≤◌, ◌^◌, ◌++◌, [], ◌∷◌, Err, OnOk, OnErr, IsOkUnless, MatchOption};
 ghost use Rattle.kdb_mem.specs.declared.mem_fault.MemFault.TheVariants.{BadAddr, OutOfMemory};
-ghost use Rattle.kdb_mem.specs.Range.{IsWidth, first_unmapped};
+ghost use Rattle.mach_base.specs.Bytes.{IsWidth};
+ghost use Rattle.kdb_mem.specs.Range.{first_unmapped};
 ghost use Rattle.kdb_mem.specs.Shown.{word_text, words_text, character, characters, line_text, whole_lines, short_line, show_text, byte_digits, raw_text};
 
 use crate::MemFault;
@@ -90,7 +91,7 @@ fn push_lines<P: Peek>(
     Ok(())
 }
 
-/// How many words stand on a line of 16 bytes.
+/// How many words a line of 16 bytes has.
 fn words_per_line(width: u8) -> u8
     requires { IsWidth width }
     ensures value { result ≡ 16 / width }
@@ -185,7 +186,7 @@ fn push_words<P: Peek>(
 
 /// Appends a word, its value in two digits a byte, after a blank.
 #[tactic(auto, unfolding(crate::specs::Shown::word_text))]
-pub fn push_word<P: Peek>(
+pub(crate) fn push_word<P: Peek>(
     mem: &P,
     out: &mut Vec<u8>,
     addr: u64,

@@ -1,5 +1,6 @@
 ghost use Rattle.std.specs.Prelude.{◌≡◌, false, ◌*◌, ◌<◌, ◌≤◌, ◌+◌, ◌^◌, IfNone};
-ghost use Rattle.kdb_mem.specs.Range.{IsWidth, is_unmapped, first_unmapped, byte_or_zero, number_at};
+ghost use Rattle.mach_base.specs.Bytes.{IsWidth, byte_or_zero, number_in};
+ghost use Rattle.kdb_mem.specs.Range.{is_unmapped, first_unmapped};
 
 use mach_base::Peek;
 
@@ -37,7 +38,7 @@ pub fn byte<P: Peek>(mem: &P, addr: u64) -> u8
 pub fn word<P: Peek>(mem: &P, addr: u64, width: u8) -> u64
     requires width { IsWidth width }
     requires room { addr + 8 ≤ 2 ^ 64 }
-    ensures value { result ≡ number_at (P.memory mem.now) addr width }
+    ensures value { result ≡ number_in (P.memory mem.now) addr width }
     ensures fits { result < 16 ^ (2 * width) }
 {
     match width {
@@ -51,14 +52,14 @@ pub fn word<P: Peek>(mem: &P, addr: u64, width: u8) -> u64
 
 fn word_of_2<P: Peek>(mem: &P, addr: u64) -> u16
     requires { addr + 2 ≤ 2 ^ 64 }
-    ensures { result ≡ number_at (P.memory mem.now) addr 2 }
+    ensures { result ≡ number_in (P.memory mem.now) addr 2 }
 {
     u16::from_le_bytes([byte(mem, addr), byte(mem, addr + 1)])
 }
 
 fn word_of_4<P: Peek>(mem: &P, addr: u64) -> u32
     requires { addr + 4 ≤ 2 ^ 64 }
-    ensures { result ≡ number_at (P.memory mem.now) addr 4 }
+    ensures { result ≡ number_in (P.memory mem.now) addr 4 }
 {
     u32::from_le_bytes([
         byte(mem, addr),
@@ -70,7 +71,7 @@ fn word_of_4<P: Peek>(mem: &P, addr: u64) -> u32
 
 fn word_of_8<P: Peek>(mem: &P, addr: u64) -> u64
     requires { addr + 8 ≤ 2 ^ 64 }
-    ensures { result ≡ number_at (P.memory mem.now) addr 8 }
+    ensures { result ≡ number_in (P.memory mem.now) addr 8 }
 {
     u64::from_le_bytes([
         byte(mem, addr),

@@ -1,2 +1,3 @@
 pub mod FromFiles
+pub mod Exclusion
 pub mod RunSteps

@@ -1,24 +1,18 @@
--- A run goes on by one step.
-use Rattle.std.proofs.Common.{◌≡◌, ℕ, List, [], ◌∷◌, ◌++◌, Option, Some, refl, sym, ap, ◌∙◌, append_assoc}
+-- What a run to its end prints.
+use Rattle.std.proofs.Common.{◌≡◌, ℕ, List, ◌++◌, Option, Some, None, sym, ap, ◌∙◌}
 use Rattle.atom_mach.specs.declared.step.AStep.{AStep}
 use Rattle.mach_base.specs.declared.event.Ending.{Ending}
 use Rattle.atom_mach.specs.declared.step.Mode.{Mode}
 use Rattle.atom_mach.specs.declared.step.Mode.TheVariants.{Free, Hold, Pass, Back, Leave, Over}
 use Rattle.atom_mach.specs.Modes.{ending_of}
-use Rattle.atom_mach.specs.State.{State}
-use Rattle.atom_mach.specs.Step.{Done, does}
-use Rattle.atom_mach.specs.Run.{Runs}
+use Rattle.atom_mach.specs.State.{State, Done}
+use Rattle.atom_mach.specs.Texts.{ending_line}
+use Rattle.atom_mach.specs.Run.{run_of, with_last_text, transcript}
 
-nothing_behind : (xs : List ℕ) → xs ≡ xs ++ []
-nothing_behind [] = refl
-nothing_behind (x ∷ xs) = ap (λ ys. x ∷ ys) (nothing_behind xs)
-
-pub Runs-snoc : (rule : State → Option AStep) (s : State) (steps : List AStep) (text : List ℕ) (mid : State) (step : AStep) (d : Done) → Runs rule s steps text mid → rule mid ≡ Some step → does mid step ≡ Some d → Runs rule s (steps ++ step ∷ []) (text ++ d.text) d.next
-Runs-snoc rule s [] text mid step d run chosen done =
-    (ap rule (sym run.1) ∙ chosen, d, ap (λ (x : State). does x step) (sym run.1) ∙ done, [], ap (λ t. t ++ d.text) run.0 ∙ nothing_behind d.text, (refl, refl))
-Runs-snoc rule s (a ∷ steps) text mid step d run chosen done =
-    let rest = run.3 in
-    (run.0, run.1, run.2, rest ++ d.text, ap (λ t. t ++ d.text) run.4 ∙ append_assoc run.1.text rest d.text, Runs-snoc rule run.1.next steps rest mid step d run.5 chosen done)
+-- a run that is over printed its steps' texts and the ending line
+pub whole_run : (start : State) (steps : List AStep) (last : Done) (ending : Ending) (text : List ℕ) → run_of start steps ≡ Some last → text ≡ last.text ++ ending_line ending last.next.machine.steps → transcript start steps None ending ≡ Some text
+unfolding transcript
+whole_run start steps last ending text run is = ap (λ r. with_last_text r None ending) run ∙ ap Some (sym is)
 
 -- a mode that has an ending is over
 pub ending_of-Some : (mode : Mode) (ending : Ending) → ending_of mode ≡ Some ending → mode ≡ Over ending

@@ -1,5 +1,6 @@
 pub mod Words
-pub mod Inputs
+pub mod Files
 pub mod Causes
 pub mod Stages
+pub mod Laws
 pub mod Report

@@ -2,7 +2,7 @@
 use Rattle.std.specs.Prelude.{ℕ, List, [], ◌++◌, codes}
 use Rattle.mach_base.specs.Number.{dec_text}
 use Rattle.mach_base.specs.declared.event.What.{What}
-use Rattle.mach_base.specs.declared.event.What.TheVariants.{ImageBytes, Segments, Memory, MapBytes, Symbols, ScriptBytes, Lines, PlanBytes, Ticks, JournalBytes, Entries}
+use Rattle.mach_base.specs.declared.event.What.TheVariants.{ImageBytes, Segments, Memory, MapBytes, Symbols, ScriptBytes, Lines, PlanBytes, Ticks, JournalBytes, Entries, SourceBytes, ElfBytes, FileBytes}
 use Rattle.img_text.specs.declared.fault.Why.{Why}
 use Rattle.img_text.specs.declared.fault.Why.TheVariants.{Header, Word, Number, Bounds, Order, Overrun, Hart, NoText}
 use Rattle.kdbsim_top.specs.declared.status.File.{File}
@@ -47,6 +47,9 @@ what_name PlanBytes = codes "planbytes"
 what_name Ticks = codes "ticks"
 what_name JournalBytes = codes "journalbytes"
 what_name Entries = codes "entries"
+what_name SourceBytes = codes "sourcebytes"
+what_name ElfBytes = codes "elfbytes"
+what_name FileBytes = codes "filebytes"
 
 -- what stands behind `kdbsim: ` in the line of a status
 unfoldable pub words_of_status : Status → List ℕ

@@ -9,6 +9,7 @@
 #![tactic(auto)]
 
 mod input;
+mod laws;
 mod report;
 mod run;
 mod status;
@@ -19,6 +20,7 @@ mod tests;
 mod top;
 mod words;
 
+pub use laws::{refusals_exclude_other_answers, right_files_end_the_run};
 pub use report::{status_code, status_line};
 pub use status::{File, Status};
 pub use top::kdbsim;

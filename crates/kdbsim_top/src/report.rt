@@ -153,5 +153,8 @@ fn what_name(what: What) -> &'static str
         What::Ticks => "ticks",
         What::JournalBytes => "journalbytes",
         What::Entries => "entries",
+        What::SourceBytes => "sourcebytes",
+        What::ElfBytes => "elfbytes",
+        What::FileBytes => "filebytes",
     }
 }

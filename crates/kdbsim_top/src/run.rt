@@ -1,10 +1,9 @@
-ghost use Rattle.std.specs.Prelude.{◌≡◌, [], Ok, None, IfOk};
-ghost use Rattle.atom_mach.specs.Script.{checked_script};
+ghost use Rattle.std.specs.Prelude.{[], IfOk};
 ghost use Rattle.atom_mach.specs.State.{start_state};
 ghost use Rattle.atom_mach.specs.Run.{IsTranscript, first_allowed};
 ghost use Rattle.kdbsim_top.specs.Causes.{uni_limit};
 
-use atom_mach::{Atom, push_ending_line};
+use atom_mach::{Atom, Script, push_ending_line};
 use img_text::Image;
 use mach_base::{Ending, OutOfMemory};
 use std::alloc::Global;
@@ -21,9 +20,8 @@ pub struct Told {
 }
 
 /// Runs a machine with one hart to its end.
-pub fn run_uni(alloc: Global, image: &Image, script: &[u8]) -> Result<Told, OutOfMemory>
-    requires { checked_script script.now ≡ Ok tt }
-    ensures { IfOk result (λ told. IsTranscript first_allowed (start_state image.now [] script.now 1 uni_limit) told.ending told.transcript.items) }
+pub fn run_uni(alloc: Global, image: &Image, script: Script) -> Result<Told, OutOfMemory>
+    ensures { IfOk result (λ told. IsTranscript first_allowed (start_state image.now [] script 1 uni_limit) told.ending told.transcript.items) }
 {
     let names = Symbols::empty(alloc);
     let mut atom = Atom::start(alloc, image, names, script, 1, UNI_LIMIT)?;

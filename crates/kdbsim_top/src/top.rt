@@ -2,8 +2,9 @@ ghost use Rattle.std.specs.Prelude.{◌≡◌, ◌↔◌, ◌++◌, map, None, M
 ghost use Rattle.std.specs.Option.{option_map};
 ghost use Rattle.std.specs.String.{string_bytes};
 ghost use Rattle.kdbsim_top.specs.Words.{command_of};
-ghost use Rattle.kdbsim_top.specs.Causes.{Explains, IsSilent, IsUniRun};
-ghost use Rattle.kdbsim_top.specs.Stages.{FailsAtRun, IsWriteRefusal, status_of};
+ghost use Rattle.kdbsim_top.specs.Causes.{Explains, IsSilent, IsUniRun, inputs_of};
+ghost use Rattle.kdbsim_top.specs.Files.{FailsAt};
+ghost use Rattle.kdbsim_top.specs.Stages.{IsWriteRefusal, status_of};
 ghost use Rattle.kdbsim_top.specs.declared.status.Status.TheVariants.{Usage};
 
 use crate::input::{image_input, script_input};
@@ -77,12 +78,12 @@ fn uni<F: Shelf, O: Sink>(
 fn run_files<F: Shelf>(alloc: Global, operands: Operands<'_>, shelf: &mut F) -> Result<Told, Status>
     ensures cause { MatchResult result
         (λ told. IsUniRun (F.contents shelf.old) (record { image = operands.entry.image.now; script = operands.entry.script.now }) told.ending told.transcript.items)
-        (FailsAtRun (F.contents shelf.old) (record { image = operands.entry.image.now; script = operands.entry.script.now }) (F.faults shelf.old) (F.faults shelf.new)) }
+        (FailsAt (F.contents shelf.old) (inputs_of (record { image = operands.entry.image.now; script = operands.entry.script.now })) (F.faults shelf.old) (F.faults shelf.new)) }
     ensures kept { F.contents shelf.new ≡ F.contents shelf.old }
 {
     let image = image_input(alloc, shelf, operands.image)?;
     let script = script_input(alloc, shelf, operands.script)?;
-    match run_uni(alloc, &image, script.as_slice()) {
+    match run_uni(alloc, &image, script) {
         Ok(told) => Ok(told),
         Err(OutOfMemory) => Err(Status::OutOfMemory),
     }

@@ -9,7 +9,8 @@ use Rattle.std.proofs.Math.Nat.{div-div-eq-div-mul}
 use Rattle.std.proofs.lemmas.Nat.{pow-add}
 use native.Mathlib.Numerals.{unary_clauses}
 use Rattle.std.proofs.lemmas.Iterator.Adapters.{position_from-zero}
-use Rattle.mach_base.specs.Number.{first_bad, hex_text}
+use Rattle.std.proofs.lemmas.Fmt.{decimal_digit, decimal_step}
+use Rattle.mach_base.specs.Number.{first_bad, hex_text, dec_text}
 
 passes : (b : Bool) (k : ℕ) (rest : Option ℕ) → cond (not b) (Some k) rest ≡ None → (b ≡ true) × (rest ≡ None)
 passes true k rest h = (refl, h)
@@ -78,3 +79,23 @@ hex_text-push old items digits zero value lt le told = absurd (omega arith)
 hex_text-push old items digits (suc p) value lt le told =
     let back : suc p - 1 ≡ p = omega arith in
     rw (back, hex_text-more digits p value le) (ap (λ xs. xs ++ digit_char (value / 2 ^ (4 * p) % 16) ∷ []) told ∙ append_assoc old _ _)
+
+-- a number of one digit, and one of more
+pub dec_text_digit : (n : ℕ) → n < 10 → dec_text n ≡ (48 + n) ∷ []
+dec_text_digit n lt = decimal_digit n lt
+
+pub dec_text_step : (n : ℕ) → 10 ≤ n → n < 2 ^ 64 → dec_text n ≡ dec_text (n / 10) ++ (48 + n % 10) ∷ []
+dec_text_step n more lt = decimal_step n more lt
+
+-- one digit less
+pub fewer_digits : (n places : ℕ) → 10 ≤ n → n < 10 ^ places → n / 10 < 10 ^ (places - 1)
+fewer_digits n zero more lt = absurd (omega arith)
+fewer_digits n (suc k) more lt = let one_less : suc k - 1 ≡ k = omega arith in rw one_less (fewer (10 ^ k) (simp unary_clauses at lt))
+  where
+    fewer : (p : ℕ) → n < p * 10 → n / 10 < p
+    fewer p h = omega (arith, h)
+
+pub two_digits : (n places : ℕ) → 10 ≤ n → n < 10 ^ places → 2 ≤ places
+two_digits n zero more lt = absurd (omega arith)
+two_digits n (suc zero) more lt = absurd (omega arith)
+two_digits n (suc (suc k)) more lt = omega arith

@@ -1,5 +1,9 @@
 pub mod Number
 pub mod Lines
 pub mod Texts
+pub mod Masks
+pub mod Sequence
 pub mod Machine
+pub mod Bytes
 pub mod Codes
+pub mod Packed

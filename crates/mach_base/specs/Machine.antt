@@ -6,6 +6,7 @@ use Rattle.std.specs.List.{AllByRecursion}
 use Rattle.mach_base.specs.declared.memory_range.Kind.{Kind}
 use Rattle.mach_base.specs.declared.memory_range.Kind.TheVariants.{Text, Data, Rodata}
 use Rattle.mach_base.specs.declared.memory_range.Segment.{Segment}
+use Rattle.mach_base.specs.declared.limits.TheConstants.{MOST_SEGMENTS, MOST_MEMORY}
 
 -- a hart's context: 32 integer registers, the pc, what the firmware keeps for interrupts, and the granule of 8 bytes
 -- that its reservation is on, by number
@@ -39,11 +40,10 @@ pub record Symbol : Type 0 where
   pub addr : ℕ
   pub name : List ℕ
 
--- the whole state but for the mode: the harts' contexts, memory, the 16 breakpoint places, the variables in order of
--- insertion, the macros and whether the last one is being defined, the symbols in the order of their file, the limit
--- of steps, the current processor, the unread script lines, how many lines were read, the number of steps, and
--- whether a session was opened
-pub record Machine : Type 0 where
+-- What a line of the debugger sees and may change: the harts' contexts, memory, the breakpoint places, the variables in
+-- order of insertion, the macros and whether the last one is being defined, the symbols in the order of their file, and
+-- the current processor.
+pub record LineState : Type 0 where
   pub harts : List Context
   pub memory : Memory
   pub places : List (Option Place)
@@ -51,8 +51,13 @@ pub record Machine : Type 0 where
   pub macros : List Macro
   pub defining : Bool
   pub symbols : List Symbol
-  pub limit : ℕ
   pub current : ℕ
+
+-- The whole state but for the mode: what a line sees, the limit of steps, the unread script lines, how many lines were
+-- read, the number of steps, and whether a session was opened.
+pub record Machine : Type 0 where
+  pub seen : LineState
+  pub limit : ℕ
   pub unread : List (List ℕ)
   pub lines_read : ℕ
   pub steps : ℕ
@@ -62,7 +67,7 @@ pub record Machine : Type 0 where
 abbrev pub HasBounds : Segment → Type 0
 HasBounds s = (s.base % 8 ≡ 0) × (s.len % 8 ≡ 0) × (0 < s.len) × (s.base + s.len ≤ 2 ^ 63)
 
--- each segment begins at this address or above, and behind the end of the one before
+-- each segment begins at this address or above, and at or above the end of the one before
 abbrev pub AreInOrder : ℕ → List Segment → Type 0
 AreInOrder end [] = Unit {0}
 AreInOrder end (s ∷ rest) = (end ≤ s.base) × AreInOrder (s.base + s.len) rest
@@ -71,12 +76,12 @@ AreInOrder end (s ∷ rest) = (end ≤ s.base) × AreInOrder (s.base + s.len) re
 abbrev pub memory_size : List Segment → ℕ
 memory_size segments = sum_by (λ s. s.len) segments
 
--- the segments of a machine: each with its bounds, in order, at most 64 of them and 16 MiB in all
+-- the segments of a machine: each with its bounds, in order, not too many of them and not too large in all
 pub record AreSegments (segments : List Segment) : Type 0 where
   pub bounds : AllByRecursion HasBounds segments
   pub order : AreInOrder 0 segments
-  pub few : length segments ≤ 64
-  pub small : memory_size segments ≤ 16777216
+  pub few : length segments ≤ MOST_SEGMENTS
+  pub small : memory_size segments ≤ MOST_MEMORY
 
 -- a segment with its bytes in order, as an image gives it
 pub record Part : Type 0 where

@@ -1,5 +1,5 @@
 -- Texts that every part of the debugger prints.
-use Rattle.std.specs.Prelude.{ℕ, ◌/◌, ◌%◌, ◌^◌, ◌==◌, Bool, List, [], ◌∷◌, ◌++◌, codes}
+use Rattle.std.specs.Prelude.{ℕ, List, [], ◌∷◌, ◌++◌, codes}
 use Rattle.mach_base.specs.Number.{hex_text}
 
 -- the end of a line
@@ -9,7 +9,3 @@ newline = 10 ∷ []
 -- an address: 0x and 16 digits
 unfoldable pub address_text : ℕ → List ℕ
 address_text addr = codes "0x" ++ hex_text 16 addr
-
--- whether the mask has the bit of this number, counted from the lowest
-abbrev pub has_bit : ℕ → ℕ → Bool
-has_bit mask number = mask / 2 ^ number % 2 == 1

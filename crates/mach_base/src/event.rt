@@ -84,4 +84,7 @@ pub enum What {
     Ticks,
     JournalBytes,
     Entries,
+    SourceBytes,
+    ElfBytes,
+    FileBytes,
 }

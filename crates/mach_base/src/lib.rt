@@ -14,16 +14,27 @@
 
 mod byte_text;
 mod event;
+mod limits;
 mod lines;
+mod masks;
 mod memory_range;
 mod number;
+mod packed;
 mod printed;
 mod seen_by_kdb;
 
 pub use byte_text::{OutOfMemory, Text};
 pub use event::{Cause, Ending, Entry, Fault, Hart, Reason, What};
+pub use limits::{
+    ELF_BYTES, IMAGE_BYTES, JOURNAL_BYTES, LINE_BYTES, MACRO_LINES, MAP_BYTES, MASK_HARTS,
+    MOST_ENTRIES, MOST_HARTS, MOST_LINES, MOST_MACROS, MOST_MEMORY, MOST_ROUNDS, MOST_SEGMENTS,
+    MOST_STEPS, MOST_SYMBOLS, MOST_TICKS, MOST_VARIABLES, PLACES, PLAN_BYTES, SCRIPT_BYTES,
+    SOURCE_BYTES, SYMBOL_BYTES,
+};
 pub use lines::{is_blank, next_line, next_word};
+pub use masks::{all_but, has_bit, least, least_outside, mask_with, mask_without, without_least};
 pub use memory_range::{Kind, Segment};
-pub use number::{NumFault, parse_number, push_dec, push_hex};
-pub use printed::{has_bit, push_address, push_bytes, push_newline};
+pub use number::{NumFault, parse_number, push_dec, push_hex, put_dec, put_hex};
+pub use packed::{Packed, PackedIter};
+pub use printed::{push_address, push_bytes, push_newline, put_address, put_bytes};
 pub use seen_by_kdb::{Names, Peek};

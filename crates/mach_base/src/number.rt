@@ -96,11 +96,23 @@ pub fn push_hex(out: &mut Vec<u8>, value: u64, digits: u8) -> Result<(), OutOfMe
     ensures err { OnErr result (out.new.items ≡ out.old.items) }
 {
     out.reserve(usize::from(digits))?;
+    put_hex(out, value, digits);
+    Ok(())
+}
+
+/// Appends the number in `digits` hexadecimal digits, lower case, with leading zeros, into room that is there.
+pub fn put_hex(out: &mut Vec<u8>, value: u64, digits: u8)
+    requires some { 1 ≤ digits }
+    requires most { digits ≤ 16 }
+    requires fits { value < 16 ^ digits }
+    requires room { vec_len out.old + digits ≤ vec_capacity out.old }
+    ensures text { out.new.items ≡ out.old.items ++ hex_text digits value }
+    ensures capacity { vec_capacity out.new ≡ vec_capacity out.old }
+{
     for place in (0..digits).rev() {
         let digit = (value >> (4 * u32::from(place))) % 16;
         out.push_reserved(hex_digit(digit as u8));
     }
-    Ok(())
 }
 
 fn hex_digit(digit: u8) -> u8
@@ -119,9 +131,35 @@ pub fn push_dec(out: &mut Vec<u8>, value: u64) -> Result<(), OutOfMemory>
     ensures ok { OnOk result (out.new.items ≡ out.old.items ++ dec_text value) }
     ensures err { OnErr result (out.new.items ≡ out.old.items) }
 {
-    let digits = value.to_string(*out.allocator())?;
-    out.extend_from_slice(digits.as_bytes())?;
+    out.reserve(20)?;
+    put_dec(out, value);
     Ok(())
+}
+
+/// Appends the number in decimal, without leading zeros, into room that is there for the 20 digits of the largest.
+pub fn put_dec(out: &mut Vec<u8>, value: u64)
+    requires room { vec_len out.old + 20 ≤ vec_capacity out.old }
+    ensures text { out.new.items ≡ out.old.items ++ dec_text value }
+    ensures capacity { vec_capacity out.new ≡ vec_capacity out.old }
+{
+    put_digits(out, value, 20);
+}
+
+/// The same, where the number has at most so many digits.
+fn put_digits(out: &mut Vec<u8>, value: u64, places: u8)
+    requires some { 1 ≤ places }
+    requires fits { value < 10 ^ places }
+    requires room { vec_len out.old + places ≤ vec_capacity out.old }
+    ensures text { out.new.items ≡ out.old.items ++ dec_text value }
+    ensures capacity { vec_capacity out.new ≡ vec_capacity out.old }
+    ensures len { vec_len out.new ≤ vec_len out.old + places }
+{
+    if value < 10 {
+        out.push_reserved(b'0' + value as u8);
+        return;
+    }
+    put_digits(out, value / 10, places - 1);
+    out.push_reserved(b'0' + (value % 10) as u8);
 }
 
 #[cfg(test)]

@@ -1,4 +1,4 @@
-ghost use Rattle.std.specs.Prelude.{◌≡◌, ℕ, ◌<◌, ◌≤◌, ◌^◌, ◌≢◌, ◌↔◌, ◌⊎◌, List, Option, None, IsTrue, IsNone};
+ghost use Rattle.std.specs.Prelude.{◌≡◌, ℕ, ◌<◌, ◌≤◌, ◌^◌, ◌≢◌, ◌↔◌, ◌⊎◌, List, Option, None, false, IsTrue, IsNone};
 ghost use Rattle.std.specs.Bool.{OnTrue, OnFalse};
 ghost use Rattle.std.specs.Option.{option_copied};
 ghost use Rattle.std.specs.FinMap as map;
@@ -42,6 +42,11 @@ pub trait Peek {
     /// The segments, and each mapped address with its byte.
     ghost memory: { Self → Memory };
 
+    /// What else the value holds; no write changes it.
+    ghost Rest: { Type 0 };
+
+    ghost rest: { Self → Rest };
+
     /// The byte at an address; None exactly where it isn't mapped.
     fn peek(&self, addr: u64) -> Option<u8>
         ensures value { result ≡ byte_at (memory self.now) addr }
@@ -51,7 +56,9 @@ pub trait Peek {
     fn poke(&mut self, addr: u64, byte: u8) -> bool
         ensures mapped { IsTrue result ↔ (byte_at (memory self.old) addr ≢ None) }
         ensures written { OnTrue result (memory self.new ≡ record (memory self.old) { bytes = map.insert (memory self.old).bytes addr byte }) }
-        ensures unmapped { OnFalse result (memory self.new ≡ memory self.old) };
+        ensures unmapped { OnFalse result (memory self.new ≡ memory self.old) }
+        ensures high { 2 ^ 63 ≤ addr → result ≡ false }
+        ensures rest { rest self.new ≡ rest self.old };
 
     /// Whether the address is a multiple of 4 in a text segment.
     fn is_text(&self, addr: u64) -> bool

@@ -4,4 +4,5 @@ pub mod Lookups
 pub mod Writes
 pub mod Numbers
 pub mod Stores
+pub mod Twice
 pub mod Built

@@ -11,7 +11,8 @@ use Rattle.mach_base.specs.declared.memory_range.Kind.TheVariants.{Text, Data, R
 use Rattle.mach_base.specs.declared.memory_range.Segment.{Segment}
 use Rattle.mach_base.specs.Machine.{Memory, Part, memory_of, entries_of, segment_at, byte_at, is_text_segment, is_text_word}
 use Rattle.mem_map.specs.declared.rights.Access.TheVariants.{Fetch, Load}
-use Rattle.mem_map.specs.Access.{allowed_in, access_fault, number_in, unless_fault, fetched, loaded}
+use Rattle.mach_base.specs.Bytes.{number_in}
+use Rattle.mem_map.specs.Access.{allowed_in, access_fault, unless_fault, fetch_result, load_result}
 use Rattle.mem_map.specs.Parts.{AreParts, IsFirstAt, NoneHolds, IsAllowedIn, segments_of, number_at}
 use Rattle.mem_map.proofs.Entries.{find-first, find-none, holds-true}
 use Rattle.mem_map.proofs.Natural.{bounds_at, fault_misaligned, fault_aligned, otherwise}
@@ -44,13 +45,13 @@ number_in-first ps addr (suc n) i d are low first =
     ∙ ap (λ x. x + get_or p.bytes (addr + n - p.segment.base) 0 * 256 ^ n) (number_in-first ps addr n i d are low (λ k h. first k (omega arith)))
     ∙ ap (λ k. number_at p.bytes (addr - p.segment.base) n + get_or p.bytes k 0 * 256 ^ n) place
 
-pub fetched-Err : (m : Memory) (addr : ℕ) (fault : Fault) → access_fault m Fetch addr 4 ≡ Some fault → fetched m addr ≡ Err fault
-unfolding fetched
-fetched-Err m addr fault e = ap (λ o. unless_fault o (number_in m addr 4)) e
+pub fetch_result-Err : (m : Memory) (addr : ℕ) (fault : Fault) → access_fault m Fetch addr 4 ≡ Some fault → fetch_result m addr ≡ Err fault
+unfolding fetch_result
+fetch_result-Err m addr fault e = ap (λ o. unless_fault o (number_in m addr 4)) e
 
-pub fetched-Ok : (ps : List Part) (addr i : ℕ) (d : Part) → AreParts ps → IsAllowedIn ps Fetch addr 4 i → fetched (memory_of ps) addr ≡ Ok (number_at (get_or ps i d).bytes (addr - (get_or ps i d).segment.base) 4)
-unfolding fetched
-fetched-Ok ps addr i d are may =
+pub fetch_result-Ok : (ps : List Part) (addr i : ℕ) (d : Part) → AreParts ps → IsAllowedIn ps Fetch addr 4 i → fetch_result (memory_of ps) addr ≡ Ok (number_at (get_or ps i d).bytes (addr - (get_or ps i d).segment.base) 4)
+unfolding fetch_result
+fetch_result-Ok ps addr i d are may =
     ap (λ o. unless_fault o (number_in (memory_of ps) addr 4)) may.faultless ∙ ap Ok (number_in-first ps addr 4 i d are (may.low d) may.first)
 
 -- the number that is read through the part
@@ -58,23 +59,23 @@ number-read : (addr width i place n : ℕ) (ps : List Part) (p : Part) → p ≡
 number-read addr width i place n ps p e at is =
     ap (λ q. number_at q.bytes (addr - q.segment.base) width) (sym e) ∙ ap (λ k. number_at p.bytes k width) (sym at) ∙ sym is
 
-pub fetched-read : (ps : List Part) (addr i place n : ℕ) (p : Part) → AreParts ps → IsAllowedIn ps Fetch addr 4 i → p ≡ get_or ps i p → place ≡ addr - p.segment.base → n ≡ number_at p.bytes place 4 → fetched (memory_of ps) addr ≡ Ok n
-fetched-read ps addr i place n p are may e at is = fetched-Ok ps addr i p are may ∙ ap Ok (number-read addr 4 i place n ps p e at is)
+pub fetch_result-read : (ps : List Part) (addr i place n : ℕ) (p : Part) → AreParts ps → IsAllowedIn ps Fetch addr 4 i → p ≡ get_or ps i p → place ≡ addr - p.segment.base → n ≡ number_at p.bytes place 4 → fetch_result (memory_of ps) addr ≡ Ok n
+fetch_result-read ps addr i place n p are may e at is = fetch_result-Ok ps addr i p are may ∙ ap Ok (number-read addr 4 i place n ps p e at is)
 
-pub loaded-Err : (m : Memory) (addr width : ℕ) (fault : Fault) → access_fault m Load addr width ≡ Some fault → loaded m addr width ≡ Err fault
-unfolding loaded
-loaded-Err m addr width fault e = ap (λ o. unless_fault o (number_in m addr width)) e
+pub load_result-Err : (m : Memory) (addr width : ℕ) (fault : Fault) → access_fault m Load addr width ≡ Some fault → load_result m addr width ≡ Err fault
+unfolding load_result
+load_result-Err m addr width fault e = ap (λ o. unless_fault o (number_in m addr width)) e
 
-pub loaded-Ok : (ps : List Part) (addr width i : ℕ) (d : Part) → AreParts ps → IsAllowedIn ps Load addr width i → loaded (memory_of ps) addr width ≡ Ok (number_at (get_or ps i d).bytes (addr - (get_or ps i d).segment.base) width)
-unfolding loaded
-loaded-Ok ps addr width i d are may =
+pub load_result-Ok : (ps : List Part) (addr width i : ℕ) (d : Part) → AreParts ps → IsAllowedIn ps Load addr width i → load_result (memory_of ps) addr width ≡ Ok (number_at (get_or ps i d).bytes (addr - (get_or ps i d).segment.base) width)
+unfolding load_result
+load_result-Ok ps addr width i d are may =
     ap (λ o. unless_fault o (number_in (memory_of ps) addr width)) may.faultless ∙ ap Ok (number_in-first ps addr width i d are (may.low d) may.first)
 
 -- a search for the access of a fetch succeeds where the fetch does
-pub is_ok-fetched : (ps : List Part) (addr : ℕ) (r : Result ℕ Fault) → MatchResult r (IsAllowedIn ps Fetch addr 4) (λ fault. access_fault (memory_of ps) Fetch addr 4 ≡ Some fault) → is_ok r ≡ is_ok (fetched (memory_of ps) addr)
-unfolding fetched
-is_ok-fetched ps addr (Ok i) h = sym (ap (λ o. is_ok (unless_fault o (number_in (memory_of ps) addr 4))) h.faultless)
-is_ok-fetched ps addr (Err fault) h = sym (ap (λ o. is_ok (unless_fault o (number_in (memory_of ps) addr 4))) h)
+pub is_ok-fetch_result : (ps : List Part) (addr : ℕ) (r : Result ℕ Fault) → MatchResult r (IsAllowedIn ps Fetch addr 4) (λ fault. access_fault (memory_of ps) Fetch addr 4 ≡ Some fault) → is_ok r ≡ is_ok (fetch_result (memory_of ps) addr)
+unfolding fetch_result
+is_ok-fetch_result ps addr (Ok i) h = sym (ap (λ o. is_ok (unless_fault o (number_in (memory_of ps) addr 4))) h.faultless)
+is_ok-fetch_result ps addr (Err fault) h = sym (ap (λ o. is_ok (unless_fault o (number_in (memory_of ps) addr 4))) h)
 
 ok_in_text : (addr n : ℕ) (o : Option Segment) → is_ok (unless_fault (otherwise addr (is_some o) (allowed_in Fetch o)) n) ≡ is_text_segment o
 ok_in_text addr n None = refl
@@ -86,8 +87,8 @@ ok_in_text addr n (Some s) = of_kind s.kind
     of_kind Rodata = refl
 
 -- a fetch gives a word exactly where a whole word of text stands
-pub is_ok-text : (ps : List Part) (addr : ℕ) → AreParts ps → is_ok (fetched (memory_of ps) addr) ≡ is_text_word (memory_of ps) addr
-unfolding fetched
+pub is_ok-text : (ps : List Part) (addr : ℕ) → AreParts ps → is_ok (fetch_result (memory_of ps) addr) ≡ is_text_word (memory_of ps) addr
+unfolding fetch_result
 is_ok-text ps addr are =
     let n = number_in (memory_of ps) addr 4 in
     let o = segment_at (segments_of ps) addr in
@@ -96,5 +97,5 @@ is_ok-text ps addr are =
       | inr ne ↦ ap (λ f. is_ok (unless_fault f n)) (fault_misaligned (memory_of ps) Fetch addr 4 ne) ∙ ap (λ t. t && is_text_segment o) (sym (ne_eqb (addr % 4) 0 ne))
     ]
 
-pub loaded-read : (ps : List Part) (addr width i place n : ℕ) (p : Part) → AreParts ps → IsAllowedIn ps Load addr width i → p ≡ get_or ps i p → place ≡ addr - p.segment.base → n ≡ number_at p.bytes place width → loaded (memory_of ps) addr width ≡ Ok n
-loaded-read ps addr width i place n p are may e at is = loaded-Ok ps addr width i p are may ∙ ap Ok (number-read addr width i place n ps p e at is)
+pub load_result-read : (ps : List Part) (addr width i place n : ℕ) (p : Part) → AreParts ps → IsAllowedIn ps Load addr width i → p ≡ get_or ps i p → place ≡ addr - p.segment.base → n ≡ number_at p.bytes place width → load_result (memory_of ps) addr width ≡ Ok n
+load_result-read ps addr width i place n p are may e at is = load_result-Ok ps addr width i p are may ∙ ap Ok (number-read addr width i place n ps p e at is)

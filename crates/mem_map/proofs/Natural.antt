@@ -10,7 +10,8 @@ use Rattle.mach_base.specs.declared.event.Cause.TheVariants.{Unmapped, NoRight, 
 use Rattle.mach_base.specs.declared.memory_range.Segment.{Segment}
 use Rattle.mach_base.specs.Machine.{Memory, Part, HasBounds, memory_of, holds, segment_at}
 use Rattle.mem_map.specs.declared.rights.Access.{Access}
-use Rattle.mem_map.specs.Access.{IsWidth, allows, allowed_in, is_mapped, has_right, all_bytes, fault_at, access_fault}
+use Rattle.mach_base.specs.Bytes.{IsWidth, is_mapped, all_bytes}
+use Rattle.mem_map.specs.Access.{allows, allowed_in, has_right, fault_at, access_fault}
 use Rattle.mem_map.specs.Parts.{IsWhole, AreParts, IsFirstAt, NoneHolds, IsAllowedIn, segments_of}
 use Rattle.mem_map.proofs.Entries.{segment_at-first, segment_at-none, is_some-find, holds-true}
 

@@ -10,7 +10,8 @@ use Rattle.std.proofs.lemmas.List.{get_or-set_same, get_or-set_other, length-set
 use Rattle.mach_base.specs.Machine.{Memory, Part, memory_of, entries_of, numbered, holds}
 use Rattle.mach_base.specs.declared.event.Fault.{Fault}
 use Rattle.mem_map.specs.declared.rights.Access.TheVariants.{Store}
-use Rattle.mem_map.specs.Access.{access_fault, store_fault, stored, with_bytes, byte_of}
+use Rattle.mach_base.specs.Bytes.{with_bytes, byte_of}
+use Rattle.mem_map.specs.Access.{access_fault, store_fault, after_store}
 use Rattle.mem_map.specs.Parts.{IsWhole, AreParts, IsAllowedIn, segments_of, IsFirstAt, with_number}
 use Rattle.mem_map.proofs.Natural.{whole_at}
 use Rattle.mem_map.proofs.Entries.{either, find-append, find-part_outside, find-numbered_below, find-numbered_past, find-numbered_at, first_behind, holds-true}
@@ -149,16 +150,16 @@ memory_of-numbered (suc n) ps addr i place value d are first within low e at =
     ∙ memory_of-written ps' (addr + n) i (place + n) (byte_of value n) so_far (put_byte so_far (place + n) (byte_of value n)) are' first' (sym (get_or-set_same ps i so_far so_far within)) at' refl
     ∙ ap (λ m. with_byte m (addr + n) (byte_of value n)) (memory_of-numbered n ps addr i place value d are (λ k h. first k (omega arith)) within low e at)
 
-pub are-stored : (ps : List Part) (i place width value : ℕ) (d q : Part) → AreParts ps → i < length ps → d ≡ get_or ps i d → q ≡ put_number d place width value → AreParts (set ps i q)
-are-stored ps i place width value d q are within e is =
+pub are-after_store : (ps : List Part) (i place width value : ℕ) (d q : Part) → AreParts ps → i < length ps → d ≡ get_or ps i d → q ≡ put_number d place width value → AreParts (set ps i q)
+are-after_store ps i place width value d q are within e is =
     let whole : IsWhole (get_or ps i d) = whole_at ps i d are.whole within in
     let same : IsWhole (put_number d place width value) = length-with_number d.bytes place width value ∙ ap (λ p. length p.bytes) e ∙ whole ∙ ap (λ p. p.segment.len) (sym e) in
     are-set ps i d q are (ap (λ p. p.segment) is ∙ ap (λ p. p.segment) e) (rw is same)
 
 -- the number that is written through the part
-pub memory_of-stored : (ps : List Part) (addr width i place value : ℕ) (d q : Part) → AreParts ps → IsAllowedIn ps Store addr width i → d ≡ get_or ps i d → place ≡ addr - d.segment.base → q ≡ put_number d place width value → memory_of (set ps i q) ≡ stored (memory_of ps) addr width value
-unfolding stored
-memory_of-stored ps addr width i place value d q are may e at is =
+pub memory_of-after_store : (ps : List Part) (addr width i place value : ℕ) (d q : Part) → AreParts ps → IsAllowedIn ps Store addr width i → d ≡ get_or ps i d → place ≡ addr - d.segment.base → q ≡ put_number d place width value → memory_of (set ps i q) ≡ after_store (memory_of ps) addr width value
+unfolding after_store
+memory_of-after_store ps addr width i place value d q are may e at is =
     let low : d.segment.base ≤ addr = rw e (may.low d) in
     ap (λ p. memory_of (set ps i p)) is ∙ memory_of-numbered width ps addr i place value d are may.first may.within low e at
 

@@ -4,12 +4,14 @@ use Rattle.std.specs.List.{AllByRecursion}
 use Rattle.mach_base.specs.declared.memory_range.Segment.{Segment}
 use Rattle.mach_base.specs.Machine.{Memory, Part, AreSegments, holds, memory_of}
 use Rattle.mem_map.specs.declared.rights.Access.{Access}
-use Rattle.mem_map.specs.Access.{access_fault, byte_of}
+use Rattle.mach_base.specs.Bytes.{byte_of}
+use Rattle.mem_map.specs.Access.{access_fault}
 
 -- the part has a byte for each address of its segment
 abbrev pub IsWhole : Part → Type 0
 IsWhole p = length p.bytes ≡ p.segment.len
 
+-- the segments of the parts
 abbrev pub segments_of : List Part → List Segment
 segments_of parts = map (λ p. p.segment) parts
 

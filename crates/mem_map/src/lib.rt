@@ -7,7 +7,7 @@
 //! - An access *faults* as misaligned, unmapped or without right, in this order, and then changes nothing.
 //!
 //! docs/machine.md has the rules. `specs/Access.antt` says what an access reads and leaves; the crates that execute
-//! instructions and the debugger stand on it.
+//! instructions and the debugger use it.
 #![tactic(auto)]
 
 mod laws;
@@ -15,6 +15,9 @@ mod memory;
 mod piece;
 mod rights;
 
-pub use laws::{store_changes_its_bytes, store_keeps_faults, store_keeps_text, stored_is_loaded};
+pub use laws::{
+    store_changes_its_bytes, store_keeps_faults, store_keeps_text, stored_is_loaded,
+    stores_are_seen_there_alone, stores_commute,
+};
 pub use mach_base::{Kind, Segment};
 pub use memory::Map;

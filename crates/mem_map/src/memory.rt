@@ -1,9 +1,10 @@
-ghost use Rattle.std.specs.Prelude.{◌≡◌, ℕ, ◌<◌, ◌^◌, ◌≤◌, ◌↔◌, ◌≢◌, Some, None, IfOk, OnOk, OnErr, IsTrue, IsNone, MatchOption, MatchResult, length, is_ok};
+ghost use Rattle.std.specs.Prelude.{◌≡◌, ℕ, ◌<◌, ◌^◌, ◌≤◌, ◌↔◌, ◌≢◌, Some, None, false, IfOk, OnOk, OnErr, IsTrue, IsNone, MatchOption, MatchResult, length, is_ok};
 ghost use Rattle.std.specs.Bool.{OnTrue, OnFalse};
 ghost use Rattle.std.specs.Result.{result_err};
 ghost use Rattle.std.specs.FinMap as map;
 ghost use Rattle.mach_base.specs.Machine.{AreSegments, byte_at, is_text_word, memory_of};
-ghost use Rattle.mem_map.specs.Access.{IsWidth, access_fault, fault_at, fetched, loaded, store_fault, stored};
+ghost use Rattle.mach_base.specs.Bytes.{IsWidth};
+ghost use Rattle.mem_map.specs.Access.{access_fault, fault_at, fetch_result, load_result, store_fault, after_store};
 ghost use Rattle.mem_map.specs.Parts.{AreContents, AreParts, IsAllowedIn, IsFirstAt, NoneHolds, parts_of, zero_memory};
 
 use crate::piece::Piece;
@@ -104,7 +105,7 @@ impl Map {
 
     /// The word of 4 bytes at the address, in text.
     pub fn fetch(&self, addr: u64) -> Result<u32, Fault>
-        ensures { result ≡ fetched self.now addr }
+        ensures { result ≡ fetch_result self.now addr }
     {
         let pieces = self.pieces.as_slice();
         let i = allowed_piece(pieces, Access::Fetch, addr, 4)?;
@@ -115,7 +116,7 @@ impl Map {
     /// The number of `width` bytes from the address on, in data or rodata, zero-extended. The width is 1, 2, 4 or 8.
     pub fn load(&self, addr: u64, width: u8) -> Result<u64, Fault>
         requires { IsWidth width }
-        ensures value { result ≡ loaded self.now addr width }
+        ensures value { result ≡ load_result self.now addr width }
         ensures fits { IfOk result (λ value. value < 256 ^ width) }
     {
         let pieces = self.pieces.as_slice();
@@ -129,7 +130,7 @@ impl Map {
     pub fn store(&mut self, addr: u64, width: u8, value: u64) -> Result<(), Fault>
         requires { IsWidth width }
         ensures fault { result_err result ≡ store_fault self.old addr width }
-        ensures stored { OnOk result (self.new ≡ stored self.old addr width value) }
+        ensures stored { OnOk result (self.new ≡ after_store self.old addr width value) }
         ensures unchanged { OnErr result (self.new ≡ self.old) }
     {
         let i = allowed_piece(self.pieces.as_slice(), Access::Store, addr, width)?;
@@ -169,6 +170,7 @@ impl Map {
         ensures mapped { IsTrue result ↔ (byte_at self.old addr ≢ None) }
         ensures written { OnTrue result (self.new ≡ record self.old { bytes = map.insert self.old.bytes addr byte }) }
         ensures unmapped { OnFalse result (self.new ≡ self.old) }
+        ensures high { 2 ^ 63 ≤ addr → result ≡ false }
     {
         match piece_at(self.pieces.as_slice(), addr) {
             None => false,
@@ -184,9 +186,17 @@ impl Map {
     /// Whether the address is a multiple of 4 in a text segment. There, and only there, a fetch gives a word.
     pub fn is_text(&self, addr: u64) -> bool
         ensures value { result ≡ is_text_word self.now addr }
-        ensures fetches { result ≡ is_ok (fetched self.now addr) }
+        ensures fetches { result ≡ is_ok (fetch_result self.now addr) }
     {
         allowed_piece(self.pieces.as_slice(), Access::Fetch, addr, 4).is_ok()
+    }
+
+    /// A whole word of text is at an address exactly where a fetch gives a word. The call does nothing; its contract says so
+    /// to callers.
+    pub fn text_is_fetched(&self)
+        ensures { (addr : ℕ) → is_text_word self.now addr ≡ is_ok (fetch_result self.now addr) }
+    {
+        let _pieces = &self.pieces;
     }
 
     /// The segments keep their bounds, their order and the limits, whatever was done to the map: at most 64 segments
@@ -200,6 +210,10 @@ impl Map {
 
 impl Peek for Map {
     ghost memory = { λ m. m };
+
+    ghost Rest = { Unit {0} };
+
+    ghost rest = { λ _. tt };
 
     fn peek(&self, addr: u64) -> Option<u8> {
         Map::peek(self, addr)

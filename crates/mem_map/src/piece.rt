@@ -1,6 +1,6 @@
 ghost use Rattle.std.specs.Prelude.{◌≡◌, ℕ, ◌+◌, ◌-◌, ◌^◌, ◌<◌, ◌≤◌, IfOk, IsTrue, length, slice_index, slice_set};
 ghost use Rattle.mach_base.specs.Machine.{holds};
-ghost use Rattle.mem_map.specs.Access.{IsWidth};
+ghost use Rattle.mach_base.specs.Bytes.{IsWidth};
 ghost use Rattle.mem_map.specs.Parts.{zero_part, number_at, with_number};
 
 use mach_base::{Kind, OutOfMemory, Segment};

@@ -3,7 +3,7 @@ use Rattle.std.specs.Prelude.{ℕ, ◌*◌, ◌/◌, ◌^◌, Bool, true, false,
 use Rattle.std.specs.Int.{w32, w64, cast_signed, from_bool}
 use Rattle.rv_table.specs.declared.op.Op.{Op}
 use Rattle.rv_table.specs.declared.op.Op.TheVariants.{Add, Addi, Sub, Sll, Slli, Slt, Slti, Sltu, Sltiu, Xor, Xori, Srl, Srli, Sra, Srai, Or, Ori, And, Andi, Mul, Mulh, Mulhsu, Mulhu, Div, Divu, Rem, Remu, Addw, Addiw, Subw, Sllw, Slliw, Srlw, Srliw, Sraw, Sraiw, Mulw, Divw, Divuw, Remw, Remuw, Beq, Bne, Blt, Bge, Bltu, Bgeu, AmoswapD, AmoaddD, AmoxorD, AmoandD, AmoorD, AmominD, AmomaxD, AmominuD, AmomaxuD, AmoswapW, AmoaddW, AmoxorW, AmoandW, AmoorW, AmominW, AmomaxW, AmominuW, AmomaxuW}
-use Rattle.rv_alu.specs.Words.{low, sign_extended, sum, difference, product, shifted_left, shifted_right, shifted_right_signed, high_half, quotient, remainder, quotient_unsigned, remainder_unsigned, least, greatest, least_unsigned, greatest_unsigned}
+use Rattle.rv_alu.specs.Words.{low, sign_extended, sum, difference, product, left_shift, right_shift, shifted_right_signed, high_half, quotient, remainder, quotient_unsigned, remainder_unsigned, least, greatest, least_unsigned, greatest_unsigned}
 
 -- the operations on two registers, and on a register and an immediate
 unfoldable pub is_alu : Op → Bool
@@ -56,16 +56,16 @@ unfoldable pub alu_result : Op → ℕ → ℕ → ℕ
 alu_result Add a b = sum w64 a b
 alu_result Addi a b = sum w64 a b
 alu_result Sub a b = difference w64 a b
-alu_result Sll a b = shifted_left w64 a b
-alu_result Slli a b = shifted_left w64 a b
+alu_result Sll a b = left_shift w64 a b
+alu_result Slli a b = left_shift w64 a b
 alu_result Slt a b = from_bool (int_lt (cast_signed w64 a) (cast_signed w64 b))
 alu_result Slti a b = from_bool (int_lt (cast_signed w64 a) (cast_signed w64 b))
 alu_result Sltu a b = from_bool (nat_lt a b)
 alu_result Sltiu a b = from_bool (nat_lt a b)
 alu_result Xor a b = bit_xor a b
 alu_result Xori a b = bit_xor a b
-alu_result Srl a b = shifted_right w64 a b
-alu_result Srli a b = shifted_right w64 a b
+alu_result Srl a b = right_shift w64 a b
+alu_result Srli a b = right_shift w64 a b
 alu_result Sra a b = shifted_right_signed w64 a b
 alu_result Srai a b = shifted_right_signed w64 a b
 alu_result Or a b = bit_or a b
@@ -83,10 +83,10 @@ alu_result Remu a b = remainder_unsigned a b
 alu_result Addw a b = sign_extended (sum w32 (low a) (low b))
 alu_result Addiw a b = sign_extended (sum w32 (low a) (low b))
 alu_result Subw a b = sign_extended (difference w32 (low a) (low b))
-alu_result Sllw a b = sign_extended (shifted_left w32 (low a) (low b))
-alu_result Slliw a b = sign_extended (shifted_left w32 (low a) (low b))
-alu_result Srlw a b = sign_extended (shifted_right w32 (low a) (low b))
-alu_result Srliw a b = sign_extended (shifted_right w32 (low a) (low b))
+alu_result Sllw a b = sign_extended (left_shift w32 (low a) (low b))
+alu_result Slliw a b = sign_extended (left_shift w32 (low a) (low b))
+alu_result Srlw a b = sign_extended (right_shift w32 (low a) (low b))
+alu_result Srliw a b = sign_extended (right_shift w32 (low a) (low b))
 alu_result Sraw a b = sign_extended (shifted_right_signed w32 (low a) (low b))
 alu_result Sraiw a b = sign_extended (shifted_right_signed w32 (low a) (low b))
 alu_result Mulw a b = sign_extended (product w32 (low a) (low b))

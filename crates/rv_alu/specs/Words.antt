@@ -16,9 +16,11 @@ sign_extended a = cast_unsigned w64 (cast_signed w32 a)
 abbrev pub sum : Width → ℕ → ℕ → ℕ
 sum w a b = (a + b) % 2 ^ bits w
 
+-- the difference, modulo 2 to the width
 abbrev pub difference : Width → ℕ → ℕ → ℕ
 difference w a b = (a + (2 ^ bits w - b)) % 2 ^ bits w
 
+-- the product, modulo 2 to the width
 abbrev pub product : Width → ℕ → ℕ → ℕ
 product w a b = a * b % 2 ^ bits w
 
@@ -26,11 +28,13 @@ product w a b = a * b % 2 ^ bits w
 abbrev pub amount : Width → ℕ → ℕ
 amount w b = b % bits w
 
-abbrev pub shifted_left : Width → ℕ → ℕ → ℕ
-shifted_left w a b = a * 2 ^ amount w b % 2 ^ bits w
+-- the number shifted left
+abbrev pub left_shift : Width → ℕ → ℕ → ℕ
+left_shift w a b = a * 2 ^ amount w b % 2 ^ bits w
 
-abbrev pub shifted_right : Width → ℕ → ℕ → ℕ
-shifted_right w a b = a / 2 ^ amount w b
+-- the number shifted right, zeros coming in
+abbrev pub right_shift : Width → ℕ → ℕ → ℕ
+right_shift w a b = a / 2 ^ amount w b
 
 -- the shift that keeps the sign
 abbrev pub shifted_right_signed : Width → ℕ → ℕ → ℕ
@@ -58,6 +62,7 @@ remainder w a b =
 abbrev pub quotient_unsigned : Width → ℕ → ℕ → ℕ
 quotient_unsigned w a b = if b == 0 then 2 ^ bits w - 1 else a / b
 
+-- the remainder of unsigned numbers; by 0 it is the dividend
 abbrev pub remainder_unsigned : ℕ → ℕ → ℕ
 remainder_unsigned a b = if b == 0 then a else a % b
 
@@ -65,11 +70,14 @@ remainder_unsigned a b = if b == 0 then a else a % b
 abbrev pub least : Width → ℕ → ℕ → ℕ
 least w a b = if int_lt (cast_signed w b) (cast_signed w a) then b else a
 
+-- the greater of the two by their signed order
 abbrev pub greatest : Width → ℕ → ℕ → ℕ
 greatest w a b = if int_lt (cast_signed w a) (cast_signed w b) then b else a
 
+-- the lesser of the two by their unsigned order
 abbrev pub least_unsigned : ℕ → ℕ → ℕ
 least_unsigned a b = if nat_lt b a then b else a
 
+-- the greater of the two by their unsigned order
 abbrev pub greatest_unsigned : ℕ → ℕ → ℕ
 greatest_unsigned a b = if nat_lt a b then b else a

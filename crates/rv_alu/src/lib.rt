@@ -1,7 +1,7 @@
 //! The arithmetic of RV64I, M and A: what an operation makes of its operands.
 //!
 //! An *operand* is a 64-bit word; a *doubleword* operation works on all of it, a *word* operation on its low 32 bits.
-//! Nothing is refused, and no state is touched. The machine's steps stand on this crate; docs/machine.md has the
+//! Nothing is refused, and no state is touched. The machine's steps use this crate; docs/machine.md has the
 //! results in plain words.
 #![tactic(auto)]
 

@@ -22,16 +22,20 @@ pub record Fields : Type 0 where
 abbrev pub i_immediate : ℕ → ℤ
 i_immediate word = signed 12 (bits_at word 20 12)
 
+-- the immediate of a store
 abbrev pub s_immediate : ℕ → ℤ
 s_immediate word = signed 12 (bits_at word 25 7 * 2 ^ 5 + bits_at word 7 5)
 
+-- the offset of a branch
 abbrev pub b_immediate : ℕ → ℤ
 b_immediate word =
     signed 13 (bits_at word 31 1 * 2 ^ 12 + bits_at word 7 1 * 2 ^ 11 + bits_at word 25 6 * 2 ^ 5 + bits_at word 8 4 * 2)
 
+-- the upper immediate
 abbrev pub u_immediate : ℕ → ℤ
 u_immediate word = signed 32 (bits_at word 12 20 * 2 ^ 12)
 
+-- the offset of a jump
 abbrev pub j_immediate : ℕ → ℤ
 j_immediate word =
     signed 21 (bits_at word 31 1 * 2 ^ 20 + bits_at word 12 8 * 2 ^ 12 + bits_at word 20 1 * 2 ^ 11 + bits_at word 21 10 * 2)
@@ -55,12 +59,14 @@ has_rd S = false
 has_rd Sys = false
 has_rd _ = true
 
+-- whether the form has a first source register
 unfoldable pub has_rs1 : Form → Bool
 has_rs1 U = false
 has_rs1 J = false
 has_rs1 Sys = false
 has_rs1 _ = true
 
+-- whether it has a second source register
 unfoldable pub has_rs2 : Form → Bool
 has_rs2 B = true
 has_rs2 S = true
@@ -68,6 +74,7 @@ has_rs2 R = true
 has_rs2 Amo = true
 has_rs2 _ = false
 
+-- whether it has the bits aq and rl
 unfoldable pub has_order : Form → Bool
 has_order Lr = true
 has_order Amo = true

@@ -41,7 +41,7 @@ fn read(op: Op, form: Form, word: u32) -> Insn
     }
 }
 
-// The register whose number stands at the bits from bit `low` up, or 0 where the form has none there.
+// The register whose number is in the bits from bit `low` up, or 0 where the form has none there.
 fn register(has: bool, word: u32, low: u32) -> u8
     requires { low < 32 }
     ensures value { result ≡ if has then bits_at word low 5 else 0 }

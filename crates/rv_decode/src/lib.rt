@@ -2,7 +2,7 @@
 //!
 //! An *instruction* is an operation with its fields: registers, immediate, ordering bits. Each instruction has one
 //! word, and each word at most one instruction: to decode and to encode undo each other. A field that the
-//! operation's form lacks is 0 or false. The machine's steps and the assembler stand on this crate; docs/machine.md
+//! operation's form lacks is 0 or false. The machine's steps and the assembler use this crate; docs/machine.md
 //! has the fields in plain words.
 #![tactic(auto)]
 

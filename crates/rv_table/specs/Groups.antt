@@ -19,5 +19,6 @@ is_group opcode g =
     && (list_all (has_other_opcode opcode) (take g.0 the_rows)
     && list_all (has_other_opcode opcode) (drop (g.1 - g.0) (drop g.0 the_rows))))
 
+-- the same as a fact, for contracts
 pub record IsGroup (opcode : ℕ) (group : ℕ × ℕ) : Type 0 where
   pub holds : IsTrue (is_group opcode group)

@@ -5,6 +5,7 @@ use Rattle.rv_table.specs.declared.op.Form.TheVariants.{U, J, I, Fence, B, S, Sh
 use Rattle.rv_table.specs.declared.op.Op.{Op}
 use Rattle.rv_table.specs.declared.op.Op.TheVariants.{Lui, Auipc, Jal, Jalr, Lb, Lh, Lw, Ld, Lbu, Lhu, Lwu, Addi, Slti, Sltiu, Xori, Ori, Andi, Slli, Srli, Srai, Addiw, Slliw, Srliw, Sraiw, Fence, Beq, Bne, Blt, Bge, Bltu, Bgeu, Sb, Sh, Sw, Sd, Add, Sub, Sll, Slt, Sltu, Xor, Srl, Sra, Or, And, Mul, Mulh, Mulhsu, Mulhu, Div, Divu, Rem, Remu, Addw, Subw, Sllw, Srlw, Sraw, Mulw, Divw, Divuw, Remw, Remuw, LrW, LrD, ScW, AmoswapW, AmoaddW, AmoxorW, AmoandW, AmoorW, AmominW, AmomaxW, AmominuW, AmomaxuW, ScD, AmoswapD, AmoaddD, AmoxorD, AmoandD, AmoorD, AmominD, AmomaxD, AmominuD, AmomaxuD, Ecall, Ebreak}
 use Rattle.rv_table.specs.declared.table.Row.{Row}
+use Rattle.rv_table.specs.declared.table.TheConstants.{EBREAK}
 
 -- the row with this form, mask, value and operation
 abbrev pub row : Form → ℕ → ℕ → Op → Row
@@ -100,7 +101,7 @@ row_for AmomaxuD = row Amo 0xf800707f 0xe000302f AmomaxuD
 row_for Ecall = row Sys 0xffffffff 0x00000073 Ecall
 row_for Ebreak = row Sys 0xffffffff 0x00100073 Ebreak
 
--- the operations of RV64I, M and A, ordered by major opcode
+-- the operations of RV64I, M and A, grouped by major opcode
 unfoldable pub the_ops : List Op
 the_ops =
     Lui ∷ Auipc ∷ Jal ∷ Jalr ∷ Lb ∷ Lh ∷ Lw ∷ Ld ∷ Lbu ∷ Lhu ∷ Lwu ∷ Addi ∷ Slti ∷ Sltiu ∷ Xori ∷
@@ -126,3 +127,7 @@ row_of word = find (matches word) the_rows
 -- no word matches both rows
 abbrev pub Disjoint : Row → Row → Type 0
 Disjoint r s = (word : ℕ) → IsTrue (matches word r) → IsTrue (matches word s) → ⊥
+
+-- the word of ebreak
+abbrev pub ebreak_word : ℕ
+ebreak_word = EBREAK

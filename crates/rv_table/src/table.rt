@@ -1,7 +1,8 @@
 // The rows, and the look-up of a word.
 
-ghost use Rattle.std.specs.Prelude.{◌≡◌, ℕ, ◌<◌, ◌≤◌, IsTrue, Some, AllPairs, find};
+ghost use Rattle.std.specs.Prelude.{◌≡◌, ℕ, ◌^◌, ◌<◌, ◌≤◌, IsTrue, Some, AllPairs, find};
 ghost use Rattle.rv_table.specs.Groups.{IsGroup};
+ghost use Rattle.rv_table.specs.declared.op.Op.TheVariants.{Ebreak};
 ghost use Rattle.rv_table.specs.Rows.{row_for, the_rows, row_of, matches, Disjoint};
 
 use crate::op::{Form, Op};
@@ -38,6 +39,9 @@ macro_rules! table_of {
         )*)*]
     };
 }
+
+/// The word of `ebreak`.
+pub const EBREAK: u32 = 0x0010_0073;
 
 // The instruction listings of the unprivileged specification, the opcodes in one run each.
 macro_rules! instructions {
@@ -206,7 +210,7 @@ static GROUPS: [(u8, u8); 32] = [
     (0, 0),
 ];
 
-/// All rows of RV64I, M and A, ordered by major opcode.
+/// All rows of RV64I, M and A, grouped by major opcode.
 pub fn rows() -> Table<87>
     ensures { result.rows ≡ the_rows }
 {
@@ -258,4 +262,10 @@ impl Op {
 pub fn rows_are_disjoint()
     ensures disjoint { AllPairs Disjoint the_rows }
     ensures one { (word : ℕ) (op : Op) → IsTrue (matches word (row_for op)) → row_of word ≡ Some (row_for op) }
+{}
+
+/// `ebreak` is one word, `EBREAK`.
+pub fn ebreak_is_one_word()
+    ensures row { row_of EBREAK ≡ Some (row_for Ebreak) }
+    ensures one { (word : ℕ) → word < 2 ^ 32 → row_of word ≡ Some (row_for Ebreak) → word ≡ EBREAK }
 {}

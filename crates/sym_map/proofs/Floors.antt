@@ -9,7 +9,7 @@ use Rattle.std.specs.Ordering.{nat_cmp}
 use Rattle.sym_map.specs.Index.{ByAddr, IndexesAddrs}
 use Rattle.sym_map.specs.Lookups.{is_at, floor_of, greater, near_of, AreBelow}
 
--- where a symbol stands first, from this number on
+-- where a symbol is first, from this number on
 abbrev first_at : ℕ → ℕ → List Symbol → Option ℕ
 first_at addr k symbols = position_from (is_at addr) k symbols
 

@@ -1,3 +1,6 @@
 pub mod Lines
+pub mod Grammar
+pub mod Words
 pub mod Indexed
 pub mod Floors
+pub mod Digits

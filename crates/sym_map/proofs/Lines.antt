@@ -6,9 +6,10 @@ use Rattle.mach_base.specs.Machine.{Symbol}
 use Rattle.mach_base.specs.Lines.{words_of}
 use Rattle.sym_map.specs.declared.fault.MapFault.{MapFault}
 use Rattle.sym_map.specs.declared.fault.MapFault.TheVariants.{Bad, TooLarge, OutOfMemory}
-use Rattle.sym_map.specs.Reading.{◌>>=◌, IsFault, line_of, read_lines}
+use Rattle.mach_base.specs.Sequence.{◌>>=◌}
+use Rattle.sym_map.specs.Reading.{IsFault, line_of, read_lines}
 
--- what reading gives, behind the symbols in front
+-- what reading gives, after the symbols in front
 abbrev pub prepended : List Symbol → Result (List Symbol) MapFault → Result (List Symbol) MapFault
 prepended front (Ok rest) = Ok (front ++ rest)
 prepended front (Err fault) = Err fault

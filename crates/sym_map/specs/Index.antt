@@ -27,6 +27,7 @@ IndexesNames index symbols = (name : List ℕ) → under index name ≡ addr_of 
 abbrev pub IndexesAddrs : ByAddr → ℕ → List Symbol → Type 0
 IndexesAddrs index number symbols = (addr : ℕ) → get nat_cmp index addr ≡ position_from (is_at addr) number symbols
 
+-- both indexes tell of the same symbols
 pub record AreIndexed (symbols : List Symbol) (by_name : ByName) (by_addr : ByAddr) : Type 0 where
   pub names : IndexesNames by_name symbols
   pub addrs : IndexesAddrs by_addr 0 symbols

@@ -5,16 +5,13 @@ use Rattle.std.specs.Result.{result_ok}
 use Rattle.std.specs.List.{cons_option}
 use Rattle.std.specs.Str.{bytes_eq}
 use Rattle.mach_base.specs.declared.event.What.TheVariants as counts
+use Rattle.mach_base.specs.declared.limits.TheConstants.{MOST_SYMBOLS, SYMBOL_BYTES}
 use Rattle.mach_base.specs.Machine.{Symbol}
+use Rattle.mach_base.specs.Sequence.{◌>>=◌}
 use Rattle.mach_base.specs.Number.{has_prefix, number_of}
 use Rattle.mach_base.specs.Lines.{lines_of, words_of}
 use Rattle.sym_map.specs.declared.fault.MapFault.{MapFault}
 use Rattle.sym_map.specs.declared.fault.MapFault.TheVariants.{Bad, TooLarge, OutOfMemory}
-
-infixl 10 ◌>>=◌
-abbrev pub ◌>>=◌ : {A B E : Type 0} → Result A E → (A → Result B E) → Result B E
-(Ok x) >>= f = f x
-(Err e) >>= f = Err e
 
 -- what a call gave is what reading gives, unless memory ran out
 abbrev pub IsFault : {A : Type 0} → MapFault → Result A MapFault → Type 0
@@ -22,6 +19,7 @@ IsFault (Bad line) read = read ≡ Err (Bad line)
 IsFault (TooLarge what size) read = read ≡ Err (TooLarge what size)
 IsFault OutOfMemory read = Unit {0}
 
+-- so is what it gave where it didn't refuse
 abbrev pub Gives : {A : Type 0} → Result A MapFault → Result A MapFault → Type 0
 Gives (Ok x) read = read ≡ Ok x
 Gives (Err fault) read = IsFault fault read
@@ -39,10 +37,10 @@ is_undefined word = bytes_eq word (codes "U") || bytes_eq word (codes "w") || by
 abbrev pub address_of : List ℕ → Option ℕ
 address_of word = if nat_le (length word) 16 && not (has_prefix word) then result_ok (number_of 16 word) else None
 
--- the symbol of an address, a type of one byte and a name of at most 255 bytes
+-- the symbol of an address, a type of one byte and a name that isn't too long
 abbrev pub symbol_of : List ℕ → List ℕ → List ℕ → Option Symbol
 symbol_of word kind name =
-    if (length kind == 1) && nat_le (length name) 255 then option_map (λ addr. record { addr = addr; name = name }) (address_of word) else None
+    if (length kind == 1) && nat_le (length name) SYMBOL_BYTES then option_map (λ addr. record { addr = addr; name = name }) (address_of word) else None
 
 -- the symbol, or the line of this number is bad
 abbrev pub known : ℕ → Option Symbol → Result (Option Symbol) MapFault
@@ -68,9 +66,9 @@ read_lines number [] = Ok []
 read_lines number (l ∷ ls) =
     line_of number (words_of l) >>= λ found. read_lines (number + 1) ls >>= λ rest. Ok (cons_option found rest)
 
--- the symbols, if they are at most 500,000
+-- the symbols, if they aren't too many
 abbrev pub within_limit : List Symbol → Result (List Symbol) MapFault
-within_limit symbols = if nat_lt 500000 (length symbols) then Err (TooLarge counts.Symbols (length symbols)) else Ok symbols
+within_limit symbols = if nat_lt MOST_SYMBOLS (length symbols) then Err (TooLarge counts.Symbols (length symbols)) else Ok symbols
 
 -- The symbols that a text means, or its first faulty line.
 abbrev pub symbols_of : List ℕ → Result (List Symbol) MapFault

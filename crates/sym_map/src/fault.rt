@@ -4,7 +4,6 @@ ghost use Rattle.std.specs.Prelude.{◌≡◌};
 ghost use Rattle.sym_map.specs.declared.fault.MapFault.TheVariants as map_faults;
 
 use mach_base::{OutOfMemory, What};
-use std::alloc::{AllocError, AllocFailed};
 use thiserror::Error;
 
 /// Why a text is no map: its first faulty line, counted from 1; else its count of symbols, if that is over the limit.
@@ -16,22 +15,6 @@ pub enum MapFault {
     TooLarge { what: What, size: u64 },
     #[error("out of memory")]
     OutOfMemory,
-}
-
-impl From<AllocError> for MapFault {
-    ghost from_gives = { λ _ e. e ≡ map_faults.OutOfMemory };
-
-    fn from(_error: AllocError) -> MapFault {
-        MapFault::OutOfMemory
-    }
-}
-
-impl<T: Drop> From<AllocFailed<T>> for MapFault {
-    ghost from_gives = { λ _ e. e ≡ map_faults.OutOfMemory };
-
-    fn from(_error: AllocFailed<T>) -> MapFault {
-        MapFault::OutOfMemory
-    }
 }
 
 impl From<OutOfMemory> for MapFault {

@@ -1,6 +1,6 @@
 use std::marker::Model;
 
-/// A symbol whose name stands in the text of a line.
+/// A symbol whose name is a part of the text of a line.
 #[derive(Debug, Drop)]
 pub struct Found<'a> {
     pub addr: u64,

@@ -7,13 +7,10 @@ ghost use Rattle.sym_map.specs.Reading.{is_undefined, address_of, symbol_of, lin
 
 use crate::MapFault;
 use crate::found::Found;
-use mach_base::{next_word, parse_number};
+use mach_base::{SYMBOL_BYTES, next_word, parse_number};
 
 /// The most bytes of an address's digits.
 const DIGIT_LIMIT: usize = 16;
-
-/// The most bytes of a name.
-const NAME_LIMIT: usize = 255;
 
 /// The symbol of the line of this number; None for a line that is skipped.
 #[tactic(auto, unfolding(crate::specs::Reading::line_of))]
@@ -29,7 +26,7 @@ pub fn line_of(number: u64, line: &[u8]) -> Result<Option<Found<'_>>, MapFault>
     after_first(number, word, rest)
 }
 
-/// What the line gives by its first word and what stands behind it.
+/// What the line gives by its first word and what comes after it.
 fn after_first<'a>(number: u64, word: &[u8], line: &'a [u8]) -> Result<Option<Found<'a>>, MapFault>
     ensures { result ≡ after_first number word.now (words_of line.now) }
 {
@@ -59,7 +56,7 @@ fn after_first<'a>(number: u64, word: &[u8], line: &'a [u8]) -> Result<Option<Fo
 fn symbol_of<'a>(word: &[u8], kind: &[u8], name: &'a [u8]) -> Option<Found<'a>>
     ensures { result ≡ symbol_of word.now kind.now name.now }
 {
-    if kind.len() != 1 || name.len() > NAME_LIMIT {
+    if kind.len() != 1 || name.len() > SYMBOL_BYTES {
         return None;
     }
     let addr = address_of(word)?;

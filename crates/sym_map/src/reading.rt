@@ -9,18 +9,15 @@ use crate::MapFault;
 use crate::found::Found;
 use crate::line::line_of;
 use crate::symbol::Symbol;
-use mach_base::{OutOfMemory, What, next_line};
+use mach_base::{MOST_SYMBOLS, OutOfMemory, What, next_line};
 use std::alloc::Global;
-
-/// The most symbols of a map.
-const SYMBOL_LIMIT: usize = 500_000;
 
 /// The symbols of a map file, in the order of its lines.
 pub fn read_symbols(alloc: Global, text: &[u8]) -> Result<Vec<Symbol>, MapFault>
     ensures { MatchResult result (λ symbols. symbols_of text.now ≡ Ok symbols.items) (λ fault. IsFault fault (symbols_of text.now)) }
 {
     let symbols = read_lines(alloc, text)?;
-    if symbols.len() > SYMBOL_LIMIT {
+    if symbols.len() > MOST_SYMBOLS {
         let what = What::Symbols;
         let size = symbols.len() as u64;
         return Err(MapFault::TooLarge { what, size });

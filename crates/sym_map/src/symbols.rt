@@ -1,6 +1,7 @@
 ghost use Rattle.std.specs.Prelude.{◌≡◌, ◌<◌, [], IfSome, MatchOption};
 ghost use Rattle.std.specs.Option.{option_map};
 ghost use Rattle.sym_map.specs.Lookups.{addr_of, near_of, AreBelow};
+ghost use Rattle.sym_map.specs.Limits.{IsSymbolName, AreSymbols};
 ghost use Rattle.sym_map.specs.Reading.{Gives, symbols_of};
 
 use crate::MapFault;
@@ -35,12 +36,13 @@ impl Model for Symbols {
     ghost use Rattle.std.specs.Prelude.{List};
     ghost use Rattle.mach_base.specs.Machine.{Symbol as SymbolRecord};
     ghost use Rattle.sym_map.specs.Index.{AreIndexed};
+    ghost use Rattle.sym_map.specs.Limits.{AreSymbols};
 
     ghost Value = { List SymbolRecord };
 
     ghost view = { λ s. s.symbols.items };
 
-    ghost invariant = { λ s. AreIndexed s.symbols.items s.by_name s.by_addr };
+    ghost invariant = { λ s. AreIndexed s.symbols.items s.by_name s.by_addr × AreSymbols s.symbols.items };
 }
 
 impl Symbols {
@@ -56,7 +58,8 @@ impl Symbols {
     }
 
     /// Reads a map file. `Bad` names the first faulty line, counted from 1; `TooLarge` comes for a file whose lines are
-    /// all right, with its number of symbols, if that is above 500,000. docs/formats.md has the format.
+    /// all right, with its number of symbols, if that is above `MOST_SYMBOLS`. docs/formats.md has the format.
+    #[tactic(auto, using(crate::proofs::Words::symbols_keep_limits))]
     pub fn read(alloc: Global, text: &[u8]) -> Result<Symbols, MapFault>
         ensures { Gives result (symbols_of text.now) }
     {
@@ -68,6 +71,14 @@ impl Symbols {
             by_name,
             by_addr,
         })
+    }
+
+    /// There are never too many symbols, and each name has 1 to 255 bytes, none a blank or a tab. The call does nothing;
+    /// its contract says so to callers.
+    pub fn keeps_limits(&self)
+        ensures { AreSymbols self.now }
+    {
+        let _symbols = &self.symbols;
     }
 
     /// The address of a name, that of its first line; None exactly where no line has it.
@@ -84,6 +95,7 @@ impl Symbols {
         ensures value { option_map (λ near. (near.name.now, near.offset)) result ≡ near_of self.now addr }
         ensures nearest { MatchOption result (AreBelow addr 1048576 self.now) (λ near. AreBelow addr near.offset self.now) }
         ensures offset { IfSome result (λ near. near.offset < 1048576) }
+        ensures name { IfSome result (λ near. IsSymbolName near.name.now) }
     {
         let Some((at, number)) = floor(&self.by_addr, addr) else {
             return None;

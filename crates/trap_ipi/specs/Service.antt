@@ -17,30 +17,30 @@ argument c = slice_index c.registers 10
 abbrev pub is_known : ℕ → ℕ → ℕ → Bool
 is_known harts number arg = if number == 6 then nat_lt arg harts else nat_lt number 8
 
--- the context behind the ecall
-abbrev pub passed : Context → Context
-passed c = record c { pc = (c.pc + 4) % 2 ^ 64 }
+-- the context after the ecall, but for what its service does
+abbrev pub after_ecall : Context → Context
+after_ecall c = record c { pc = (c.pc + 4) % 2 ^ 64 }
 
 -- The context of the hart h that asks, after the service of this number.
-unfoldable pub served : ℕ → ℕ → Context → Context
-served number h c =
-    if number == 0 then record (passed c) { halted = true }
-    else (if number == 2 then with_register (passed c) 10 h
-    else (if number == 3 then record (passed c) { masked = true }
-    else (if number == 4 then record (passed c) { masked = false }
-    else (if number == 5 then record (passed c) { vector = argument c }
+unfoldable pub caller_after : ℕ → ℕ → Context → Context
+caller_after number h c =
+    if number == 0 then record (after_ecall c) { halted = true }
+    else (if number == 2 then with_register (after_ecall c) 10 h
+    else (if number == 3 then record (after_ecall c) { masked = true }
+    else (if number == 4 then record (after_ecall c) { masked = false }
+    else (if number == 5 then record (after_ecall c) { vector = argument c }
     else (if number == 7 then record c { pc = c.epc; masked = false }
-    else passed c)))))
+    else after_ecall c)))))
 
 -- an interrupt is pending for the hart
-abbrev pub interrupted : List Context → ℕ → List Context
-interrupted cs h = slice_set cs h (record (context_of cs h) { pending = true })
+abbrev pub with_pending : List Context → ℕ → List Context
+with_pending cs h = slice_set cs h (record (context_of cs h) { pending = true })
 
 -- the contexts after a known service of this number and argument
 abbrev pub after_known : ℕ → ℕ → List Context → ℕ → List Context
 after_known number arg cs h =
-    if number == 6 then interrupted (slice_set cs h (served number h (context_of cs h))) arg
-    else slice_set cs h (served number h (context_of cs h))
+    if number == 6 then with_pending (slice_set cs h (caller_after number h (context_of cs h))) arg
+    else slice_set cs h (caller_after number h (context_of cs h))
 
 -- The contexts after the service that hart h asks for; an unknown one changes nothing.
 unfoldable pub after_service : List Context → ℕ → List Context

@@ -1,5 +1,5 @@
 ghost use Rattle.std.specs.Prelude.{◌≡◌, ◌<◌, length};
-ghost use Rattle.trap_ipi.specs.Service.{is_known, served, interrupted, after_service, answer};
+ghost use Rattle.trap_ipi.specs.Service.{is_known, caller_after, with_pending, after_service, answer};
 
 use hart_ctx::Context;
 use mach_base::Hart;
@@ -57,9 +57,9 @@ fn is_known(harts: usize, number: u64, argument: u64) -> bool
 }
 
 /// What the service does to the hart that asks.
-#[tactic(auto, unfolding(crate::specs::Service::served))]
+#[tactic(auto, unfolding(crate::specs::Service::caller_after))]
 fn serve(ctx: &mut Context, number: u64, h: Hart)
-    ensures { ctx.new ≡ served number h.0 ctx.old }
+    ensures { ctx.new ≡ caller_after number h.0 ctx.old }
 {
     let next = ctx.pc.wrapping_add(4);
     match number {
@@ -77,7 +77,7 @@ fn serve(ctx: &mut Context, number: u64, h: Hart)
 /// Makes an interrupt pending for a hart.
 fn interrupt(ctxs: &mut [Context], hart: usize)
     requires { hart < length ctxs.old }
-    ensures { ctxs.new ≡ interrupted ctxs.old hart }
+    ensures { ctxs.new ≡ with_pending ctxs.old hart }
 {
     let mut ctx = ctxs[hart];
     ctx.pending = true;

@@ -4,7 +4,7 @@
 //! - An *interrupt* is pending for a hart until the hart takes it; there is at most one. To *take* it is to go on at the
 //!   handler, whose address is the vector.
 //!
-//! It stands on the contexts of `hart_ctx`; the execution of instructions stands on it.
+//! It uses the contexts of `hart_ctx`; the execution of instructions uses it.
 #![tactic(auto)]
 
 mod firmware;

@@ -1,5 +1,6 @@
 use Rattle.std.proofs.Common.{◌≡◌, Some, None, sym, ap, ◌∙◌}
-use Rattle.atom_mach.specs.Step.{Done, does}
+use Rattle.atom_mach.specs.State.{Done}
+use Rattle.atom_mach.specs.Step.{does}
 use Rattle.atom_mach.proofs.Moved.{made}
 use Rattle.atom_mach.proofs.LateSessions.{late_sessions_keep}
 use Rattle.atom_mach.proofs.atom.Atom.step.Goals as goal

@@ -1,6 +1,6 @@
 use Rattle.std.proofs.Common.{◌≡◌, ◌<◌, ℕ, ap, subst}
-use Rattle.atom_mach.specs.Core.{state_of}
 use Rattle.atom_mach.specs.Work.{work_left}
+use Rattle.atom_mach.specs.Core.{state_of}
 use Rattle.atom_mach.proofs.atom.Atom.turn.Goals as goal
 
 pub returns-clause-less : goal.returns-clause-less

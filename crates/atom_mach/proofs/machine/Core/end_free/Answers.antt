@@ -1,7 +1,9 @@
 use Rattle.std.proofs.Common.{◌&&◌, refl, sym, ◌∙◌}
+use Rattle.atom_mach.specs.Modes.{is_free}
+use Rattle.atom_mach.specs.Step.{is_true_ending}
 use Rattle.atom_mach.specs.Core.{machine_of, state_of}
-use Rattle.atom_mach.specs.Step.{is_free, is_true_ending}
-use Rattle.atom_mach.proofs.Steps.{does-Off, cond_true, cond_false}
+use Rattle.atom_mach.proofs.Booleans.{cond_true, cond_false}
+use Rattle.atom_mach.proofs.Steps.{does-Off}
 use Rattle.atom_mach.proofs.machine.Core.end_free.Goals as goal
 
 pub returns-then-has_ended-clause-step : goal.returns-then-has_ended-clause-step

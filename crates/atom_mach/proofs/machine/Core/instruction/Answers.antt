@@ -3,8 +3,11 @@ use Rattle.std.specs.Option.{option_to_list}
 use Rattle.mach_base.specs.declared.event.Hart.{Hart}
 use Rattle.atom_mach.specs.declared.step.AStep.TheVariants.{Instr}
 use Rattle.atom_mach.specs.State.{State}
+use Rattle.atom_mach.specs.Traps.{executed, console_text}
+use Rattle.atom_mach.specs.Modes.{mode_after}
+use Rattle.atom_mach.specs.Session.{is_hart}
+use Rattle.atom_mach.specs.Step.{does, may_run, may_pass}
 use Rattle.atom_mach.specs.Core.{machine_of, state_of}
-use Rattle.atom_mach.specs.Step.{does, is_hart, executed, console_text, may_run, may_pass, mode_after}
 use Rattle.atom_mach.proofs.Steps.{may_run-right, may_run-mode, does-Instr, does-Instr-not, same_done}
 use Rattle.atom_mach.proofs.Allowed.{does-Instr-no_hart}
 use Rattle.atom_mach.proofs.machine.Core.instruction.Goals as goal
@@ -17,7 +20,7 @@ either_right a b e f = rw (e, f) refl
 
 allowed : (s : State) (h : Hart) → is_hart s.machine h.0 ≡ true → (may_run s h.0 || may_pass s h.0) ≡ true → does s (Instr h) ≢ None
 allowed s h there e none =
-    let lt : h.0 < length s.machine.harts = search rules in
+    let lt : h.0 < length s.machine.seen.harts = search rules in
     let some = does-Instr s h lt e in
     cc
 

@@ -1,5 +1,6 @@
-use Rattle.std.proofs.Common.{◌≡◌, ◌-◌, vec_len}
-use Rattle.atom_mach.specs.Step.{session_lines, prefixed}
+use Rattle.std.proofs.Common.{◌≡◌, ◌-◌, length, vec_len}
+use Rattle.atom_mach.specs.State.{prefixed}
+use Rattle.atom_mach.specs.Session.{session_lines}
 use Rattle.atom_mach.specs.Core.{machine_of}
 use Rattle.atom_mach.proofs.machine.Core.session_lines.Given as goal
 
@@ -12,4 +13,4 @@ invariant-loop-self l = record {
 }
 
 abbrev pub decreases-loop-self : goal.decreases-loop-self
-decreases-loop-self l = vec_len l.self.lines - l.self.read
+decreases-loop-self l = length l.self.script - l.self.read

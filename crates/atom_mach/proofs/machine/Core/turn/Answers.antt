@@ -1,9 +1,9 @@
 use Rattle.std.proofs.Common.{◌≡◌, None, sym, ap, ◌∙◌, arith}
 use Rattle.mach_base.specs.declared.event.Ending.TheVariants.{AllHalted, StepLimit}
 use Rattle.atom_mach.specs.declared.step.AStep.TheVariants.{Instr, Intr, Session, Off}
-use Rattle.atom_mach.specs.Core.{state_of}
 use Rattle.atom_mach.specs.State.{State}
 use Rattle.atom_mach.specs.Step.{does}
+use Rattle.atom_mach.specs.Core.{state_of}
 use Rattle.atom_mach.proofs.Moved.{made, refused, unmoved}
 use Rattle.atom_mach.proofs.Allowed.{alone_of}
 use Rattle.atom_mach.proofs.FirstSteps.{some_allowed, first_allowed-Intr, first_allowed-Session, first_allowed-Instr, first_allowed-AllHalted, first_allowed-StepLimit}

@@ -5,17 +5,17 @@ use Rattle.mach_base.specs.Machine.{memory_of}
 use Rattle.mem_map.specs.declared.rights.Access.TheVariants.{Fetch}
 use Rattle.mem_map.specs.Access.{access_fault}
 use Rattle.mem_map.specs.Parts.{IsAllowedIn}
-use Rattle.mem_map.proofs.Lookups.{fetched-Err, fetched-read}
+use Rattle.mem_map.proofs.Lookups.{fetch_result-Err, fetch_result-read}
 use Rattle.mem_map.proofs.memory.Map.fetch.Goals as goal
 
 pub returns-in_err-i : goal.returns-in_err-i
 returns-in_err-i c =
     let fault : access_fault (memory_of c.self.inside.pieces.items) Fetch c.args.addr 4 ≡ Some c.in_err-i.field-0.0 = rw (← c.as_slice-pieces.ensures.value) c.in_err-i.ensures in
     let p = err_from_is_err_and c.from_residual.result c.from_residual.ensures.1 in
-    rw (p.1, p.2, ← c.self.view_is) (sym (fetched-Err (memory_of c.self.inside.pieces.items) c.args.addr c.in_err-i.field-0.0 fault))
+    rw (p.1, p.2, ← c.self.view_is) (sym (fetch_result-Err (memory_of c.self.inside.pieces.items) c.args.addr c.in_err-i.field-0.0 fault))
 
 pub returns : goal.returns
 returns c =
     let may : IsAllowedIn c.self.inside.pieces.items Fetch c.args.addr 4 c.in_ok-i.i = rw (← c.as_slice-pieces.ensures.value) c.in_ok-i.ensures in
     let piece : c.index-pieces-i.result ≡ get_or c.self.inside.pieces.items c.in_ok-i.i c.index-pieces-i.result = rw (← c.as_slice-pieces.ensures.value) c.index-pieces-i.is in
-    rw (← c.self.view_is) (sym (fetched-read c.self.inside.pieces.items c.args.addr c.in_ok-i.i c.place.result c.word.result c.index-pieces-i.result c.self.invariant may piece c.place.ensures c.word.ensures))
+    rw (← c.self.view_is) (sym (fetch_result-read c.self.inside.pieces.items c.args.addr c.in_ok-i.i c.place.result c.word.result c.index-pieces-i.result c.self.invariant may piece c.place.ensures c.word.ensures))

@@ -5,17 +5,17 @@ use Rattle.mach_base.specs.Machine.{memory_of}
 use Rattle.mem_map.specs.declared.rights.Access.TheVariants.{Load}
 use Rattle.mem_map.specs.Access.{access_fault}
 use Rattle.mem_map.specs.Parts.{IsAllowedIn}
-use Rattle.mem_map.proofs.Lookups.{loaded-Err, loaded-read}
+use Rattle.mem_map.proofs.Lookups.{load_result-Err, load_result-read}
 use Rattle.mem_map.proofs.memory.Map.load.Goals as goal
 
 pub returns-in_err-i-clause-value : goal.returns-in_err-i-clause-value
 returns-in_err-i-clause-value c =
     let fault : access_fault (memory_of c.self.inside.pieces.items) Load c.args.addr c.args.width ≡ Some c.in_err-i.field-0.0 = rw (← c.as_slice-pieces.ensures.value) c.in_err-i.ensures in
     let p = err_from_is_err_and c.from_residual.result c.from_residual.ensures.1 in
-    rw (p.1, p.2, ← c.self.view_is) (sym (loaded-Err (memory_of c.self.inside.pieces.items) c.args.addr c.args.width c.in_err-i.field-0.0 fault))
+    rw (p.1, p.2, ← c.self.view_is) (sym (load_result-Err (memory_of c.self.inside.pieces.items) c.args.addr c.args.width c.in_err-i.field-0.0 fault))
 
 pub returns-clause-value : goal.returns-clause-value
 returns-clause-value c =
     let may : IsAllowedIn c.self.inside.pieces.items Load c.args.addr c.args.width c.in_ok-i.i = rw (← c.as_slice-pieces.ensures.value) c.in_ok-i.ensures in
     let piece : c.index-pieces-i.result ≡ get_or c.self.inside.pieces.items c.in_ok-i.i c.index-pieces-i.result = rw (← c.as_slice-pieces.ensures.value) c.index-pieces-i.is in
-    rw (← c.self.view_is) (sym (loaded-read c.self.inside.pieces.items c.args.addr c.args.width c.in_ok-i.i c.place.result c.number.result c.index-pieces-i.result c.self.invariant may piece c.place.ensures c.number.ensures.value))
+    rw (← c.self.view_is) (sym (load_result-read c.self.inside.pieces.items c.args.addr c.args.width c.in_ok-i.i c.place.result c.number.result c.index-pieces-i.result c.self.invariant may piece c.place.ensures c.number.ensures.value))

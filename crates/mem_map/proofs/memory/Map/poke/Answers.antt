@@ -1,9 +1,9 @@
-use Rattle.std.proofs.Common.{◌≡◌, None, sym, ◌∙◌, refl}
+use Rattle.std.proofs.Common.{◌≡◌, None, sym, ◌∙◌, refl, arith}
 use Rattle.std.proofs.lemmas.Bool.{false≢true}
 use Rattle.std.proofs.lemmas.Option.{none-some}
 use Rattle.mach_base.specs.Machine.{byte_at}
 use Rattle.mem_map.specs.Parts.{IsFirstAt, NoneHolds}
-use Rattle.mem_map.proofs.Lookups.{byte_at-none, byte_at-first}
+use Rattle.mem_map.proofs.Lookups.{byte_at-none, byte_at-first, below_half}
 use Rattle.mem_map.proofs.Writes.{are-written, memory_of-written}
 use Rattle.mem_map.proofs.memory.Map.poke.Goals as goal
 
@@ -28,3 +28,8 @@ pub returns-in-Some-clause-written : goal.returns-in-Some-clause-written
 returns-in-Some-clause-written c =
     let first : IsFirstAt c.self.inside.pieces.items c.args.addr c.in-Some.i = rw (← c.as_slice.ensures.value) c.in-Some.ensures in
     rw (← c.self.view_is) (memory_of-written c.self.inside.pieces.items c.args.addr c.in-Some.i c.place-place.result c.args.byte c.index_mut-piece.result.now c.put.new.self c.self.invariant first c.index_mut-piece.ensures.value c.place-place.ensures c.put.ensures)
+
+pub returns-in-Some-clause-high : goal.returns-in-Some-clause-high
+returns-in-Some-clause-high c =
+    let first : IsFirstAt c.self.inside.pieces.items c.args.addr c.in-Some.i = rw (← c.as_slice.ensures.value) c.in-Some.ensures in
+    λ high. absurd (omega (arith, below_half c.self.inside.pieces.items c.args.addr c.in-Some.i c.index_mut-piece.result.now c.self.invariant first))

@@ -1,0 +1,22 @@
+use Rattle.deck_core.proofs.Flats.{whole_on}
+use Rattle.deck_core.proofs.PhaseTicks.{shuts}
+use Rattle.deck_core.proofs.decks.flat_deck.FlatDeck.shut.Goals as goal
+
+pub invariant_of-self : goal.invariant_of-self
+invariant_of-self g c =
+    let s = c.args.self.now in
+    record {
+      selected_is_one = s.selected_is_one;
+      few = s.few;
+      sound = (shuts s.limit s.seats c.turns_gate.new.seats (g.B.Bus.told s.bus) s.selected.0 c.harts.result c.after_shut-next.result c.requires.phase c.harts.ensures c.after_shut-next.ensures c.turns_gate.ensures).sound s.sound s.selected_is_one;
+    }
+
+pub returns-clause-seat : goal.returns-clause-seat
+returns-clause-seat g c =
+    let s = c.args.self.now in
+    (shuts s.limit s.seats c.turns_gate.new.seats (g.B.Bus.told s.bus) s.selected.0 c.harts.result c.after_shut-next.result c.requires.phase c.harts.ensures c.after_shut-next.ensures c.turns_gate.ensures).seat s.idle
+
+pub returns-clause-ticks : goal.returns-clause-ticks
+returns-clause-ticks g c =
+    let s = c.args.self.now in
+    whole_on _ _ s.selected.0 (shuts s.limit s.seats c.turns_gate.new.seats (g.B.Bus.told s.bus) s.selected.0 c.harts.result c.after_shut-next.result c.requires.phase c.harts.ensures c.after_shut-next.ensures c.turns_gate.ensures).ticks

@@ -1,0 +1,22 @@
+use Rattle.deck_core.proofs.Flats.{whole_on}
+use Rattle.deck_core.proofs.PhaseTicks.{wishes}
+use Rattle.deck_core.proofs.decks.flat_deck.FlatDeck.want.Goals as goal
+
+pub invariant_of-self : goal.invariant_of-self
+invariant_of-self g c =
+    let s = c.args.self.now in
+    record {
+      selected_is_one = s.selected_is_one;
+      few = s.few;
+      sound = (wishes s.limit s.seats c.writes.new.seats (g.B.Bus.told s.bus) s.selected.0 c.requires.phase c.writes.ensures).sound s.sound s.selected_is_one;
+    }
+
+pub returns-clause-seat : goal.returns-clause-seat
+returns-clause-seat g c =
+    let s = c.args.self.now in
+    (wishes s.limit s.seats c.writes.new.seats (g.B.Bus.told s.bus) s.selected.0 c.requires.phase c.writes.ensures).seat s.idle
+
+pub returns-clause-ticks : goal.returns-clause-ticks
+returns-clause-ticks g c =
+    let s = c.args.self.now in
+    whole_on _ _ s.selected.0 (wishes s.limit s.seats c.writes.new.seats (g.B.Bus.told s.bus) s.selected.0 c.requires.phase c.writes.ensures).ticks

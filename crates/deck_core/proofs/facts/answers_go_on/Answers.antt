@@ -1,5 +1,0 @@
-use Rattle.deck_core.proofs.Programs.{answers_go_on}
-use Rattle.deck_core.proofs.facts.answers_go_on.Goals as goal
-
-pub returns : goal.returns
-returns c = answers_go_on

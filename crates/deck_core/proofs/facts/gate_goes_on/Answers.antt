@@ -1,5 +1,0 @@
-use Rattle.deck_core.proofs.Programs.{gate_goes_on}
-use Rattle.deck_core.proofs.facts.gate_goes_on.Goals as goal
-
-pub returns : goal.returns
-returns c = gate_goes_on

@@ -1,5 +1,0 @@
-use Rattle.deck_core.proofs.Conditions.{gone_trap_drops}
-use Rattle.deck_core.proofs.facts.gone_trap_drops.Goals as goal
-
-pub returns : goal.returns
-returns c = gone_trap_drops

@@ -1,5 +1,0 @@
-use Rattle.deck_core.proofs.Programs.{looks_go_on}
-use Rattle.deck_core.proofs.facts.looks_go_on.Goals as goal
-
-pub returns : goal.returns
-returns c = looks_go_on

@@ -1,5 +1,0 @@
-use Rattle.deck_core.proofs.Leaves.{close_keeps}
-use Rattle.deck_core.proofs.laws.close_keeps.Goals as goal
-
-pub returns : goal.returns
-returns c = close_keeps

@@ -1,0 +1,5 @@
+use Rattle.deck_core.proofs.Sessions.{plant_step_keeps}
+use Rattle.deck_core.proofs.laws.keeps.plant_step_keeps.Goals as goal
+
+pub returns : goal.returns
+returns c = plant_step_keeps

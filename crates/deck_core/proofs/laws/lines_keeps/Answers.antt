@@ -1,5 +1,0 @@
-use Rattle.deck_core.proofs.Sessions.{lines_keeps}
-use Rattle.deck_core.proofs.laws.lines_keeps.Goals as goal
-
-pub returns : goal.returns
-returns c = lines_keeps

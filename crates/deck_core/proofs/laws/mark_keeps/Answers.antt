@@ -1,5 +1,0 @@
-use Rattle.deck_core.proofs.Outside.{mark_keeps}
-use Rattle.deck_core.proofs.laws.mark_keeps.Goals as goal
-
-pub returns : goal.returns
-returns c = mark_keeps

@@ -1,5 +1,0 @@
-use Rattle.deck_core.proofs.Outside.{parked_keeps}
-use Rattle.deck_core.proofs.laws.parked_keeps.Goals as goal
-
-pub returns : goal.returns
-returns c = parked_keeps

@@ -1,5 +1,0 @@
-use Rattle.deck_core.proofs.Sessions.{pass_step_keeps}
-use Rattle.deck_core.proofs.laws.pass_step_keeps.Goals as goal
-
-pub returns : goal.returns
-returns c = pass_step_keeps

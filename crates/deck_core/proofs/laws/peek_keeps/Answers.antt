@@ -1,5 +1,0 @@
-use Rattle.deck_core.proofs.Transactions.{peek_keeps}
-use Rattle.deck_core.proofs.laws.peek_keeps.Goals as goal
-
-pub returns : goal.returns
-returns c = peek_keeps

@@ -1,5 +1,0 @@
-use Rattle.deck_core.proofs.Sessions.{plant_keeps}
-use Rattle.deck_core.proofs.laws.plant_keeps.Goals as goal
-
-pub returns : goal.returns
-returns c = plant_keeps

@@ -1,5 +1,0 @@
-use Rattle.deck_core.proofs.Sessions.{plant_step_keeps}
-use Rattle.deck_core.proofs.laws.plant_step_keeps.Goals as goal
-
-pub returns : goal.returns
-returns c = plant_step_keeps

@@ -1,5 +1,0 @@
-use Rattle.deck_core.proofs.Sessions.{pull_keeps}
-use Rattle.deck_core.proofs.laws.pull_keeps.Goals as goal
-
-pub returns : goal.returns
-returns c = pull_keeps

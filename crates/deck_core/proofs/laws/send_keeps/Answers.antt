@@ -1,5 +1,0 @@
-use Rattle.deck_core.proofs.Elects.{send_keeps}
-use Rattle.deck_core.proofs.laws.send_keeps.Goals as goal
-
-pub returns : goal.returns
-returns c = send_keeps

@@ -1,8 +1,0 @@
-use Rattle.std.proofs.Common.{arith}
-use Rattle.std.proofs.lemmas.Bool.{ltb-true}
-use Rattle.deck_core.specs.declared.act.Act.TheVariants as act
-use Rattle.deck_core.proofs.Allowed.{allowed_names}
-use Rattle.deck_core.proofs.tests.small_bus.SmallBusBus.hart_step.Goals as goal
-
-pub mask_has-requires : goal.mask_has-requires
-mask_has-requires c = omega (arith, ltb-true c.args.h.0 2 (allowed_names (act.HartStep c.args.h) _ c.requires))

@@ -1,0 +1,3 @@
+pub mod Told
+pub mod Allowed
+pub mod Calls

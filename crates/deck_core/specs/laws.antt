@@ -1,0 +1,4 @@
+pub mod Keeps
+pub mod Facts
+pub mod Ranges
+pub mod Runs

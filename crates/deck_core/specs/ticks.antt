@@ -1,0 +1,6 @@
+pub mod Configuration
+pub mod Phases
+pub mod NextPhase
+pub mod Tick
+pub mod Run
+pub mod Looks

@@ -1,0 +1,3 @@
+pub mod Seats
+pub mod Ticks
+pub mod Plans

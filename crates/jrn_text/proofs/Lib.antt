@@ -1,0 +1,5 @@
+pub mod Cut
+pub mod Numbers
+pub mod Masks
+pub mod Meaning
+pub mod Lines

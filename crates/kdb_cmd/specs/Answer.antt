@@ -1,0 +1,19 @@
+-- What a line of the debugger answers.
+use Rattle.std.specs.Prelude.{ℕ, List, slice_set}
+use Rattle.hart_ctx.specs.Context.{context_of}
+use Rattle.mach_base.specs.Machine.{Context, LineState}
+use Rattle.kdb_cmd.specs.declared.outcomes.Outcome.{Outcome}
+
+-- what a line prints, the state that it leaves, and whether the session goes on
+pub record Answer : Type 0 where
+  pub output : List ℕ
+  pub state : LineState
+  pub outcome : Outcome
+
+-- the context of the current processor
+abbrev pub current_context : LineState → Context
+current_context s = context_of s.harts s.current
+
+-- the state in which the current processor has this context
+abbrev pub with_current : LineState → Context → LineState
+with_current s c = record s { harts = slice_set s.harts s.current c }

@@ -1,0 +1,44 @@
+"""Runs kdbsim on many lists of words: by the proved program, or all at once unproved by `rt try` where it isn't built."""
+import os
+import re
+import subprocess
+import sys
+import tempfile
+
+TOP = os.path.dirname(os.path.dirname(os.path.realpath(__file__)))
+PROGRAM = f"{TOP}/crates/kdbsim/out/kdbsim"
+
+
+def run_all(cases):
+    """The exit status and the output of each case, which is a folder and the words that kdbsim is given there."""
+    if os.access(PROGRAM, os.X_OK):
+        return [run_proved(*case) for case in cases]
+    print("not proved: the proved program isn't built, so rt try runs these", file=sys.stderr, flush=True)
+    return run_unproved(cases)
+
+
+def run_proved(folder, words):
+    ran = subprocess.run([PROGRAM, *words], cwd=folder, stdin=subprocess.DEVNULL, stdout=subprocess.PIPE)
+    return ran.returncode, ran.stdout
+
+
+def run_unproved(cases):
+    """`rt try --cases` builds once, takes the words of case N from the file N.args, and prints each output under `== N`."""
+    with tempfile.TemporaryDirectory() as room:
+        for at, (folder, words) in enumerate(cases):
+            open(f"{room}/{at:04}", "w").close()
+            with open(f"{room}/{at:04}.args", "w") as args:
+                args.writelines(f"{absolute(folder, word)}\n" for word in words)
+        ran = subprocess.run(["rt", "try", "--cases", room], cwd=f"{TOP}/crates/kdbsim", stdin=subprocess.DEVNULL,
+                             stdout=subprocess.PIPE, stderr=subprocess.STDOUT)
+    found = {}
+    for it in re.finditer(rb"^== (\d{4})\n(.*?)^case=\1 run=(\S+) status=(\d+) ", ran.stdout, re.M | re.S):
+        found[int(it[1])] = int(it[4]), it[2]
+    if len(found) < len(cases):
+        sys.exit(f"rt try ran {len(found)} of {len(cases)} cases; it said:\n{ran.stdout.decode(errors='replace')[-2000:]}")
+    return [found[at] for at in range(len(cases))]
+
+
+def absolute(folder, word):
+    path = os.path.join(folder, word)
+    return path if os.path.exists(path) and not word.startswith("-") else word
