@@ -1,4 +1,6 @@
-ghost use Rattle.std.specs.Prelude.{◌≤◌, length, IfOk};
+ghost use Rattle.std.specs.Prelude.{◌≡◌, ◌≤◌, ℕ, length, IfOk, IfSome, OnOk};
+ghost use Rattle.std.specs.Io.KnownBytes.{Appends};
+ghost use Rattle.io_edge.specs.Files.{path_beside, IsBeside};
 
 use arrayvec::ArrayString;
 use std::alloc::Global;
@@ -58,8 +60,11 @@ fn replace<R: Files>(
     bytes: &[u8],
     permissions: Option<Permissions>,
 ) -> io::Result<()> {
-    let NewFile { file, path: beside } = create_beside(rt, path)?;
-    let outcome = match fill(file, bytes, permissions) {
+    let NewFile {
+        mut file,
+        path: beside,
+    } = create_beside(rt, path)?;
+    let outcome = match fill(&mut file, bytes, permissions) {
         Ok(()) => fs::rename(rt, beside.as_str(), path),
         Err(error) => Err(error),
     };
@@ -70,7 +75,9 @@ fn replace<R: Files>(
 }
 
 /// Creates a file that isn't there, in the folder of this path.
-fn create_beside<R: Files>(rt: &R, path: &str) -> io::Result<NewFile<R::File>> {
+fn create_beside<R: Files>(rt: &R, path: &str) -> io::Result<NewFile<R::File>>
+    ensures { IfOk result (λ new. IsBeside path.now new.path.bytes) }
+{
     for number in 0..NAMES_TRIED {
         let Some(path) = path_beside(path, number) else {
             return Err(io::Error::from(io::ErrorKind::InvalidInput));
@@ -85,19 +92,24 @@ fn create_beside<R: Files>(rt: &R, path: &str) -> io::Result<NewFile<R::File>> {
 }
 
 /// A path in the same folder; None where it would be too long. It takes no memory.
-fn path_beside(path: &str, number: u8) -> Option<LongPath> {
+fn path_beside(path: &str, number: u8) -> Option<LongPath>
+    ensures { IfSome result (λ beside. beside.bytes ≡ path_beside path.now number) }
+{
     let mut beside = LongPath::new();
     beside.try_push_str(path).ok()?;
     write!(beside, ".new-{number}").ok()?;
     Some(beside)
 }
 
-/// Writes a new file, and waits until the system keeps its bytes.
+/// Writes a new file, and waits until the system keeps its bytes. Ok means that a file which tells its bytes has taken all
+/// of these, in order.
 fn fill<F: Write + OpenFile + Drop>(
-    mut file: F,
+    file: &mut F,
     bytes: &[u8],
     permissions: Option<Permissions>,
-) -> io::Result<()> {
+) -> io::Result<()>
+    ensures { OnOk result (Appends (F.contents file.old) (F.contents file.new) bytes.now) }
+{
     if let Some(permissions) = permissions {
         file.set_permissions(permissions)?;
     }

@@ -7,7 +7,7 @@ use Rattle.mach_base.specs.Machine.{LineState}
 use Rattle.mach_base.specs.Number.{dec_text}
 use Rattle.mach_base.specs.Masks.{has_bit}
 use Rattle.mach_base.proofs.Bits.{has_bit-below}
-use Rattle.kdb_cmd.specs.Processors.{number_text, numbers_text, separator, processor_frames, frames_below}
+use Rattle.kdb_cmd.specs.command.Processors.{number_text, numbers_text, separator, processor_frames, frames_below}
 
 -- a mask below a power of two has no bit from the power's number on
 pub gathered_there : (gathered n count : ℕ) → gathered < 2 ^ count → has_bit gathered n ≡ true → n < count

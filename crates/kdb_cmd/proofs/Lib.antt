@@ -2,10 +2,10 @@ pub mod Apart
 pub mod Gathered
 pub mod Keeps
 pub mod Limits
+pub mod Meant
 pub mod Places
 pub mod Printed
 pub mod RefusedLines
 pub mod Runs
 pub mod Steps
-pub mod Usages
 pub mod Walk

@@ -3,7 +3,7 @@ use Rattle.std.proofs.Common.{◌≡◌, ℕ, suc, ◌+◌, ◌<◌, ◌≤◌, 
 use Rattle.std.specs.Prelude.{slice_get}
 use Rattle.std.proofs.lemmas.Option.{slice_get_within, get_or_from_slice_get, slice_get_cases}
 use Rattle.kdb_env.specs.Variables.{Variables}
-use Rattle.kdb_cmd.specs.Variables.{variable_line, first_lines, variables_text}
+use Rattle.kdb_cmd.specs.command.Variables.{variable_line, first_lines, variables_text}
 
 pub line_more : (vars : Variables) (i : ℕ) (name value out new : List ℕ) → Some (name, value) ≡ slice_get vars i → out ≡ first_lines vars i → new ≡ out ++ variable_line (name, value) → new ≡ first_lines vars (i + 1)
 line_more vars i name value out new is so_far more =

@@ -1,7 +1,7 @@
 -- The state of a line, by its parts.
 use Rattle.std.specs.Prelude.{List}
 use Rattle.mach_base.specs.Machine.{Context, Memory, Symbol, LineState}
-use Rattle.kdb_cmd.specs.declared.session.Kdb.{Kdb}
+use Rattle.kdb_cmd.specs.declared.state.session.Kdb.{Kdb}
 
 -- the state that contexts, memory, what the debugger keeps, and symbols make
 abbrev pub state_of : List Context → Memory → Kdb → List Symbol → LineState
