@@ -12,12 +12,12 @@ use Rattle.mach_base.specs.Number.{number_of}
 use Rattle.kdb_bp.specs.declared.bp_fault.BpFault.{BpFault}
 use Rattle.kdb_bp.specs.declared.bp_fault.BpFault.TheVariants.{BadAddr, NotText, Duplicate}
 use Rattle.kdb_bp.specs.Breaks.{is_at, place_at, first_empty, empty_or_fault, added, with_place, switched}
-use Rattle.kdb_cmd.specs.declared.command.breakpoints.BreakpointAnswer.{BreakpointAnswer}
+use Rattle.kdb_view.specs.declared.breakpoints.BreakpointAnswer.{BreakpointAnswer}
 use Rattle.kdb_table.specs.declared.commands.BreakpointChange.{BreakpointChange}
 use Rattle.kdb_table.specs.declared.commands.BreakpointChange.TheVariants.{Clear, Disable, Enable}
 use Rattle.kdb_table.specs.declared.diagnostics.Diagnostic.{Diagnostic}
 use Rattle.kdb_table.specs.declared.diagnostics.Diagnostic.TheVariants as diagnostic
-use Rattle.kdb_cmd.specs.command.Breakpoints.{Places, bp_answer, new_place_or_diagnostic, changed, changed_at, changed_first, all_changed, change_or_diagnostic, one_changed, number_changed, change_answer}
+use Rattle.kdb_view.specs.Breakpoints.{Places, bp_answer, new_place_or_diagnostic, changed, changed_at, changed_first, all_changed, change_or_diagnostic, one_changed, number_changed, change_answer}
 use Rattle.kdb_cmd.specs.Limits.{AreBreakpoints}
 
 -- what stands in a list of places once one of them is another

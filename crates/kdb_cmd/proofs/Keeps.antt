@@ -10,23 +10,25 @@ use Rattle.kdb_mem.specs.Changed.{modify_refusal}
 use Rattle.kdb_reg.specs.Registers.{is_zero, with_named, set_text}
 use Rattle.kdb_env.specs.Variables.{Variables, AreVariables}
 use Rattle.kdb_macro.specs.Macros.{MacroList, AreMacros}
-use Rattle.kdb_cmd.specs.declared.command.arguments.Values.{Values}
-use Rattle.kdb_cmd.specs.declared.command.breakpoints.BreakpointAnswer.{BreakpointAnswer}
+use Rattle.kdb_view.specs.declared.arguments.Values.{Values}
+use Rattle.kdb_view.specs.declared.breakpoints.BreakpointAnswer.{BreakpointAnswer}
 use Rattle.kdb_table.specs.declared.commands.Command.{Command}
 use Rattle.kdb_table.specs.declared.commands.Command.TheVariants as command
 use Rattle.kdb_table.specs.declared.diagnostics.Diagnostic.{Diagnostic}
 use Rattle.kdb_table.specs.declared.diagnostics.Diagnostic.TheVariants as diagnostic
 use Rattle.kdb_cmd.specs.declared.outcomes.Outcome.TheVariants.{Stay, Go}
 use Rattle.kdb_cmd.specs.declared.command.registers.RegisterWrite.{RegisterWrite}
-use Rattle.kdb_cmd.specs.declared.state.session.Gathering.{Gathering}
-use Rattle.kdb_cmd.specs.Answer.{Answer, current_context, with_current}
+use Rattle.kdb_cmd.specs.declared.desk.Gathering.{Gathering}
+use Rattle.kdb_view.specs.State.{current_context}
+use Rattle.kdb_cmd.specs.Answer.{Answer, with_current}
 use Rattle.kdb_table.specs.Words.{word_at}
-use Rattle.kdb_cmd.specs.command.Arguments.{address}
+use Rattle.kdb_view.specs.Arguments.{address}
 use Rattle.kdb_cmd.specs.command.MemoryChange.{with_memory_write, write_or_diagnostic, write_answer}
 use Rattle.kdb_cmd.specs.command.Registers.{rm_wanted, register_set, rm_answer}
-use Rattle.kdb_cmd.specs.command.Breakpoints.{Places, bp_answer, change_answer}
-use Rattle.kdb_cmd.specs.command.Processors.{cpu_answer}
-use Rattle.kdb_cmd.specs.command.Variables.{assignment_of, variables_after, set_answer}
+use Rattle.kdb_view.specs.Breakpoints.{Places, bp_answer, change_answer}
+use Rattle.kdb_view.specs.Processors.{cpu_answer}
+use Rattle.kdb_view.specs.Variables.{assignment_of, variables_after}
+use Rattle.kdb_cmd.specs.command.SetVariable.{set_answer}
 use Rattle.kdb_cmd.specs.command.SessionExit.{with_pc, go_answer, ss_refusal, step_unless, ss_answer}
 use Rattle.kdb_cmd.specs.Meanings.{printing, with_breaks, with_processor, display_text, command_answer}
 use Rattle.kdb_cmd.specs.MacroDefinition.{macros_after_line, macros_after_defcmd}

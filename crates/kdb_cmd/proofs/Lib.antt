@@ -3,8 +3,6 @@ pub mod Gathered
 pub mod Keeps
 pub mod Limits
 pub mod Meant
-pub mod Places
-pub mod Printed
 pub mod RefusedLines
 pub mod Runs
 pub mod Steps

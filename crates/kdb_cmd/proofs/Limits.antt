@@ -16,7 +16,7 @@ use Rattle.kdb_table.specs.declared.diagnostics.Diagnostic.{Diagnostic}
 use Rattle.kdb_table.specs.declared.diagnostics.Diagnostic.TheVariants.{WrongArguments}
 use Rattle.kdb_table.specs.Words.{word_at}
 use Rattle.kdb_table.specs.Table.{takes}
-use Rattle.kdb_cmd.specs.command.Variables.{variables_unless, variables_after}
+use Rattle.kdb_view.specs.Variables.{variables_unless, variables_after}
 use Rattle.kdb_cmd.specs.MacroDefinition.{is_end, is_reserved, macros_unless, macros_after_line, macros_after_defcmd}
 
 variables_unless-are : (vars : Variables) (name value : List ℕ) (o : Option EnvFault) → o ≡ refusal_of vars name value → IfOk (variables_unless o (with_value vars name value)) (λ new. AreVariables vars → AreVariables new)

@@ -6,8 +6,8 @@ use Rattle.kdb_table.specs.declared.diagnostics.Diagnostic.{Diagnostic}
 use Rattle.kdb_table.specs.declared.refusals.Refusal.{Refusal}
 use Rattle.kdb_table.specs.declared.refusals.Refusal.TheVariants.{Diagnosed, OutOfMemory as NoMemory}
 use Rattle.kdb_cmd.specs.declared.outcomes.Said.{Said}
-use Rattle.kdb_cmd.specs.declared.state.desk.Desk.{Desk}
-use Rattle.kdb_cmd.specs.declared.state.session.Gathering.{Gathering}
+use Rattle.kdb_cmd.specs.declared.desk.Desk.{Desk}
+use Rattle.kdb_cmd.specs.declared.desk.Gathering.{Gathering}
 use Rattle.kdb_cmd.specs.Answer.{Answer, answer_with}
 use Rattle.kdb_cmd.specs.Desk.{desk_state, Changes, Says}
 use Rattle.kdb_cmd.specs.Meanings.{answer_or_line}

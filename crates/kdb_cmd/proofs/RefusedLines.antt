@@ -7,7 +7,7 @@ use Rattle.kdb_lex.specs.Line.{command_words, line_pattern, refusal_of}
 use Rattle.kdb_macro.specs.Macros.{MacroList}
 use Rattle.kdb_table.specs.declared.diagnostics.Diagnostic.{Diagnostic}
 use Rattle.kdb_cmd.specs.declared.line.first_word.FirstWord.{FirstWord}
-use Rattle.kdb_cmd.specs.declared.state.session.Gathering.{Gathering}
+use Rattle.kdb_cmd.specs.declared.desk.Gathering.{Gathering}
 use Rattle.kdb_cmd.specs.Answer.{Answer}
 use Rattle.kdb_table.specs.Diagnostics.{diagnostic_text}
 use Rattle.kdb_cmd.specs.FirstWord.{first_word_of}

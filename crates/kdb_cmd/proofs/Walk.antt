@@ -6,16 +6,16 @@ use Rattle.mach_base.specs.Sequence.{◌>>=◌}
 use Rattle.kdb_lex.specs.declared.lex_fault.LexFault.{LexFault}
 use Rattle.kdb_lex.specs.Line.{command_words, refusal_of as lex_refusal}
 use Rattle.kdb_macro.specs.Macros.{MacroList}
-use Rattle.kdb_cmd.specs.declared.command.arguments.Values.{Values}
+use Rattle.kdb_view.specs.declared.arguments.Values.{Values}
 use Rattle.kdb_table.specs.declared.commands.Command.{Command}
 use Rattle.kdb_table.specs.declared.commands.Entry.TheVariants.{Run}
 use Rattle.kdb_table.specs.declared.diagnostics.Diagnostic.{Diagnostic}
 use Rattle.kdb_cmd.specs.declared.line.first_word.FirstWord.{FirstWord}
 use Rattle.kdb_cmd.specs.declared.line.first_word.FirstWord.TheVariants as first_word
-use Rattle.kdb_cmd.specs.declared.state.session.Gathering.{Gathering}
+use Rattle.kdb_cmd.specs.declared.desk.Gathering.{Gathering}
 use Rattle.kdb_cmd.specs.Answer.{Answer}
 use Rattle.kdb_table.specs.Table.{row_of}
-use Rattle.kdb_cmd.specs.command.Arguments.{values_of}
+use Rattle.kdb_view.specs.Arguments.{values_of}
 use Rattle.kdb_cmd.specs.Meanings.{printing, command_answer, command_meaning, words_meaning, answer_or_line}
 use Rattle.kdb_cmd.specs.FirstWord.{first_word_of}
 use Rattle.kdb_cmd.specs.Output.{unless_refused, cut_answer}

@@ -1,6 +1,5 @@
 -- What a line of the debugger answers.
 use Rattle.std.specs.Prelude.{ℕ, List, slice_set}
-use Rattle.hart_ctx.specs.Context.{context_of}
 use Rattle.mach_base.specs.Machine.{Context, LineState}
 use Rattle.kdb_cmd.specs.declared.outcomes.Outcome.{Outcome}
 use Rattle.kdb_cmd.specs.declared.outcomes.Said.{Said}
@@ -14,10 +13,6 @@ pub record Answer : Type 0 where
 -- what a line has printed and what follows it, with the state that it leaves
 abbrev pub answer_with : Said → LineState → Answer
 answer_with said s = record { output = said.text; state = s; outcome = said.outcome }
-
--- the context of the current processor
-abbrev pub current_context : LineState → Context
-current_context s = context_of s.harts s.current
 
 -- the state in which the current processor has this context
 abbrev pub with_current : LineState → Context → LineState

@@ -3,12 +3,12 @@ use Rattle.std.specs.Prelude.{◌≡◌, ℕ, ◌<◌, ◌^◌, true, length, Re
 use Rattle.mach_base.specs.Machine.{Memory, LineState}
 use Rattle.mach_base.specs.Masks.{has_bit}
 use Rattle.mach_base.specs.declared.byte_text.OutOfMemory.{OutOfMemory}
-use Rattle.kdb_cmd.specs.declared.state.desk.Desk.{Desk}
+use Rattle.kdb_cmd.specs.declared.desk.Desk.{Desk}
 use Rattle.kdb_table.specs.declared.diagnostics.Diagnostic.{Diagnostic}
 use Rattle.kdb_cmd.specs.declared.outcomes.Said.{Said}
 use Rattle.kdb_table.specs.declared.refusals.Refusal.{Refusal}
-use Rattle.kdb_cmd.specs.declared.state.session.Gathering.{Gathering}
-use Rattle.kdb_cmd.specs.State.{state_of}
+use Rattle.kdb_cmd.specs.declared.desk.Gathering.{Gathering}
+use Rattle.kdb_view.specs.State.{state_of}
 use Rattle.kdb_cmd.specs.Answer.{Answer, answer_with}
 use Rattle.kdb_table.specs.Refused.{Refuses}
 

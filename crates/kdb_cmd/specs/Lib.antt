@@ -1,6 +1,5 @@
 pub mod Answer
 pub mod State
-pub mod Scope
 pub mod Desk
 pub mod command
 pub mod FirstWord

@@ -7,7 +7,7 @@ use Rattle.kdb_table.specs.declared.diagnostics.Diagnostic.{Diagnostic}
 use Rattle.kdb_table.specs.declared.diagnostics.Diagnostic.TheVariants.{WrongArguments}
 use Rattle.kdb_cmd.specs.declared.line.first_word.FirstWord.{FirstWord}
 use Rattle.kdb_cmd.specs.declared.line.first_word.FirstWord.TheVariants.{Nothing, Command, Define, Macro, WrongCount, Unknown}
-use Rattle.kdb_cmd.specs.declared.state.session.Gathering.{Gathering}
+use Rattle.kdb_cmd.specs.declared.desk.Gathering.{Gathering}
 use Rattle.kdb_cmd.specs.Answer.{Answer}
 use Rattle.mach_base.specs.Sequence.{◌>>=◌}
 use Rattle.kdb_cmd.specs.Meanings.{printing, words_meaning, answer_or_line}

@@ -5,7 +5,7 @@ use Rattle.kdb_lex.specs.Line.{command_words}
 use Rattle.kdb_table.specs.declared.diagnostics.Diagnostic.{Diagnostic}
 use Rattle.kdb_cmd.specs.declared.outcomes.Outcome.{Outcome}
 use Rattle.kdb_cmd.specs.declared.outcomes.Outcome.TheVariants.{Stay, Go, Step}
-use Rattle.kdb_cmd.specs.declared.state.session.Gathering.{Gathering}
+use Rattle.kdb_cmd.specs.declared.desk.Gathering.{Gathering}
 use Rattle.kdb_cmd.specs.Answer.{Answer}
 use Rattle.kdb_cmd.specs.Meanings.{printing, words_meaning, answer_or_line}
 use Rattle.kdb_cmd.specs.FirstWord.{first_word_of}

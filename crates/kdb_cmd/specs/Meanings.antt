@@ -3,8 +3,8 @@ use Rattle.std.specs.Prelude.{ℕ, List, [], Option, Some, None, Result, Ok, Err
 use Rattle.mach_base.specs.Machine.{LineState}
 use Rattle.mach_base.specs.Sequence.{◌>>=◌}
 use Rattle.kdb_reg.specs.Registers.{registers_text}
-use Rattle.kdb_cmd.specs.declared.command.arguments.Values.{Values}
-use Rattle.kdb_cmd.specs.declared.command.breakpoints.BreakpointAnswer.{BreakpointAnswer}
+use Rattle.kdb_view.specs.declared.arguments.Values.{Values}
+use Rattle.kdb_view.specs.declared.breakpoints.BreakpointAnswer.{BreakpointAnswer}
 use Rattle.kdb_table.specs.declared.commands.Command.{Command}
 use Rattle.kdb_table.specs.declared.commands.Command.TheVariants as command
 use Rattle.kdb_table.specs.declared.commands.Entry.TheVariants.{Run}
@@ -15,20 +15,22 @@ use Rattle.kdb_table.specs.declared.diagnostics.Diagnostic.TheVariants.{WrongArg
 use Rattle.kdb_cmd.specs.declared.line.first_word.FirstWord.{FirstWord}
 use Rattle.kdb_cmd.specs.declared.line.first_word.FirstWord.TheVariants as first_word
 use Rattle.kdb_cmd.specs.declared.outcomes.Outcome.TheVariants.{Stay}
-use Rattle.kdb_cmd.specs.declared.command.processors.CpuAnswer.{CpuAnswer}
-use Rattle.kdb_cmd.specs.declared.state.session.Gathering.{Gathering}
-use Rattle.kdb_cmd.specs.Answer.{Answer, current_context}
+use Rattle.kdb_view.specs.declared.processors.CpuAnswer.{CpuAnswer}
+use Rattle.kdb_cmd.specs.declared.desk.Gathering.{Gathering}
+use Rattle.kdb_view.specs.State.{current_context}
+use Rattle.kdb_cmd.specs.Answer.{Answer}
 use Rattle.kdb_table.specs.Words.{word_at}
 use Rattle.kdb_table.specs.Diagnostics.{diagnostic_text}
 use Rattle.kdb_table.specs.Table.{row_of, spelled_width}
-use Rattle.kdb_cmd.specs.command.Arguments.{address, values_of}
-use Rattle.kdb_cmd.specs.Scope.{width_in}
-use Rattle.kdb_cmd.specs.command.MemoryDisplay.{md_text, md_count_text, mdr_text, mds_text}
+use Rattle.kdb_view.specs.Arguments.{address, values_of}
+use Rattle.kdb_view.specs.Scope.{width_in}
+use Rattle.kdb_view.specs.MemoryDisplay.{md_text, md_count_text, mdr_text, mds_text}
 use Rattle.kdb_cmd.specs.command.MemoryChange.{mm_answer}
 use Rattle.kdb_cmd.specs.command.Registers.{rm_answer}
-use Rattle.kdb_cmd.specs.command.Breakpoints.{bl_text, bp_answer, change_answer}
-use Rattle.kdb_cmd.specs.command.Processors.{cpu_text, cpu_answer, bt_text, btc_text}
-use Rattle.kdb_cmd.specs.command.Variables.{variables_text, assignment_of, set_answer}
+use Rattle.kdb_view.specs.Breakpoints.{bl_text, bp_answer, change_answer}
+use Rattle.kdb_view.specs.Processors.{cpu_text, cpu_answer, bt_text, btc_text}
+use Rattle.kdb_view.specs.Variables.{variables_text, assignment_of}
+use Rattle.kdb_cmd.specs.command.SetVariable.{set_answer}
 use Rattle.kdb_cmd.specs.command.SessionExit.{go_answer, ss_answer}
 use Rattle.kdb_table.specs.Help.{help_text}
 

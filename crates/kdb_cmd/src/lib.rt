@@ -13,16 +13,16 @@
 #![tactic(auto)]
 
 mod command;
+mod desk;
 mod laws;
 mod line;
 mod outcomes;
-mod state;
 #[cfg(test)]
 mod tests;
 
+pub use kdb_view::Kdb;
 pub use laws::{
     lines_keep_the_limits, refused_lines_change_nothing, steps_begin_where_a_hart_runs,
 };
 pub use line::lines::run_line;
 pub use outcomes::{Outcome, Said};
-pub use state::session::Kdb;

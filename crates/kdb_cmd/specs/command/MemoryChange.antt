@@ -6,12 +6,12 @@ use Rattle.hart_ctx.specs.Reservation.{granule_of, without_reservations}
 use Rattle.kdb_mem.specs.declared.mem_fault.MemFault.{MemFault}
 use Rattle.kdb_mem.specs.declared.mem_fault.MemFault.TheVariants.{BadAddr, TooWide, OutOfMemory}
 use Rattle.kdb_mem.specs.Changed.{modify_refusal, modify_text}
-use Rattle.kdb_cmd.specs.declared.command.arguments.Values.{Values}
+use Rattle.kdb_view.specs.declared.arguments.Values.{Values}
 use Rattle.kdb_table.specs.declared.diagnostics.Diagnostic.{Diagnostic}
 use Rattle.kdb_table.specs.declared.diagnostics.Diagnostic.TheVariants.{BadAddress, BadNumber}
 use Rattle.kdb_cmd.specs.declared.outcomes.Outcome.TheVariants.{Stay}
 use Rattle.kdb_cmd.specs.Answer.{Answer}
-use Rattle.kdb_cmd.specs.command.Arguments.{address}
+use Rattle.kdb_view.specs.Arguments.{address}
 
 -- the state once a value is written in so many bytes from an address on; each reservation on a granule that it touches
 -- has ended

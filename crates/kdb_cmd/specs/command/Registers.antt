@@ -8,10 +8,11 @@ use Rattle.kdb_table.specs.declared.diagnostics.Diagnostic.{Diagnostic}
 use Rattle.kdb_table.specs.declared.diagnostics.Diagnostic.TheVariants.{BadRegister}
 use Rattle.kdb_cmd.specs.declared.outcomes.Outcome.TheVariants.{Stay}
 use Rattle.kdb_cmd.specs.declared.command.registers.RegisterWrite.{RegisterWrite}
-use Rattle.kdb_cmd.specs.Answer.{Answer, current_context, with_current}
+use Rattle.kdb_view.specs.State.{current_context}
+use Rattle.kdb_cmd.specs.Answer.{Answer, with_current}
 use Rattle.kdb_table.specs.Words.{word_at}
 use Rattle.mach_base.specs.Sequence.{◌>>=◌}
-use Rattle.kdb_cmd.specs.command.Arguments.{argument}
+use Rattle.kdb_view.specs.Arguments.{argument}
 
 -- the register of this name, or the diagnostic
 abbrev pub register_or_diagnostic : ℕ → Option RegName → Result RegName Diagnostic

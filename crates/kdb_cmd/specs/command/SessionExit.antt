@@ -4,7 +4,8 @@ use Rattle.mach_base.specs.Machine.{LineState}
 use Rattle.kdb_table.specs.declared.diagnostics.Diagnostic.{Diagnostic}
 use Rattle.kdb_table.specs.declared.diagnostics.Diagnostic.TheVariants.{EnteredOn, IsHalted}
 use Rattle.kdb_cmd.specs.declared.outcomes.Outcome.TheVariants.{Go, Step}
-use Rattle.kdb_cmd.specs.Answer.{Answer, current_context, with_current}
+use Rattle.kdb_view.specs.State.{current_context}
+use Rattle.kdb_cmd.specs.Answer.{Answer, with_current}
 
 -- the state in which the current processor has this pc, if one is given
 abbrev pub with_pc : LineState → Option ℕ → LineState

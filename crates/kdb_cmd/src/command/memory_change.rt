@@ -4,12 +4,12 @@ ghost use Rattle.kdb_cmd.specs.Desk.{IsReady, IsSameDesk, Changes};
 ghost use Rattle.kdb_cmd.specs.command.MemoryChange.{write_answer, mm_answer};
 
 use crate::Said;
-use crate::command::arguments::Values;
+use crate::desk::Desk;
 use crate::outcomes::stay;
-use crate::state::desk::Desk;
 use hart_ctx::{end_reservations, granule_of};
 use kdb_mem::{MemFault, modify};
 use kdb_table::{Diagnostic, Refusal};
+use kdb_view::Values;
 use mach_base::{Peek, Text};
 
 /// The granule of the last of this many bytes from an address on.

@@ -2,17 +2,16 @@ ghost use Rattle.std.specs.Prelude.{◌≡◌, IfOk};
 ghost use Rattle.hart_ctx.specs.RegisterName.{IsRegister};
 ghost use Rattle.kdb_reg.specs.Registers.{registers_text};
 ghost use Rattle.kdb_cmd.specs.Desk.{IsReady, IsSameDesk, Changes};
-ghost use Rattle.kdb_cmd.specs.Answer.{current_context};
+ghost use Rattle.kdb_view.specs.State.{current_context};
 ghost use Rattle.kdb_cmd.specs.command.Registers.{register_argument, rm_wanted, rm_answer};
 
 use crate::Said;
-use crate::command::arguments::argument;
+use crate::desk::Desk;
 use crate::outcomes::stay;
-use crate::state::desk::Desk;
-use crate::state::view::View;
 use hart_ctx::{RegName, reg_of};
 use kdb_reg::{RegFault, set_reg, show_regs};
 use kdb_table::{Diagnostic, Refusal, word_at};
+use kdb_view::{View, argument};
 use mach_base::{OutOfMemory, Peek, Text};
 use std::alloc::Global;
 

@@ -2,11 +2,11 @@ ghost use Rattle.std.specs.Prelude.{◌≡◌};
 ghost use Rattle.kdb_cmd.specs.Desk.{IsReady, IsSameDesk, Changes};
 ghost use Rattle.kdb_cmd.specs.command.SessionExit.{go_answer, ss_refusal};
 
+use crate::desk::Desk;
 use crate::outcomes::silent;
-use crate::state::desk::Desk;
-use crate::state::view::View;
 use crate::{Outcome, Said};
 use kdb_table::{Diagnostic, Refusal};
+use kdb_view::View;
 use mach_base::{Hart, Peek};
 
 /// `go [E]`.

@@ -1,18 +1,17 @@
 ghost use Rattle.std.specs.Prelude.{◌≡◌, ◌<◌, ◌^◌, true, false, length, IfOk, OnOk};
 ghost use Rattle.mach_base.specs.Masks.{has_bit};
-ghost use Rattle.kdb_cmd.specs.State.{state_of};
+ghost use Rattle.kdb_view.specs.State.{state_of};
 ghost use Rattle.kdb_cmd.specs.Answer.{answer_with};
 ghost use Rattle.kdb_cmd.specs.Desk.{IsReady, IsSameDesk, Changes, Says};
 ghost use Rattle.kdb_cmd.specs.Line.{outer_meaning, outer_answer, macro_called, words_answer, cut_line, stored_answer, line_answer, line_said};
 
+use crate::desk::{Desk, Gathering};
 use crate::line::first_word::{FirstWord, first_word_of};
 use crate::line::macro_definition::{begin_macro, store_line};
 use crate::line::macro_lines::run_macro;
 use crate::line::meanings::words_meaning;
 use crate::line::output::{cut_refusal, filtered_output, said_or_line};
 use crate::outcomes::{silent, stay};
-use crate::state::desk::Desk;
-use crate::state::session::Gathering;
 use crate::{Kdb, Outcome, Said};
 use hart_ctx::Context;
 use kdb_lex::{LexFault, Lexed, lex};

@@ -2,11 +2,11 @@ ghost use Rattle.std.specs.Prelude.{◌≡◌, slice_get, IfOk};
 ghost use Rattle.kdb_cmd.specs.Desk.{IsReady, IsSameDesk, Changes, Says};
 ghost use Rattle.kdb_cmd.specs.MacroLines.{goes_on, inner_meaning, inner_answer, inner_line, lines_in, macro_answer};
 
+use crate::desk::Desk;
 use crate::line::first_word::first_word_of;
 use crate::line::meanings::words_meaning;
 use crate::line::output::{cut_refusal, filtered_output, said_or_line};
 use crate::outcomes::stay;
-use crate::state::desk::Desk;
 use crate::{Outcome, Said};
 use kdb_lex::{LexFault, Lexed, lex};
 use kdb_macro::Macros;

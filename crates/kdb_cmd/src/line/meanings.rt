@@ -3,22 +3,19 @@ ghost use Rattle.kdb_table.specs.Refused.{Answers};
 ghost use Rattle.kdb_cmd.specs.Desk.{IsReady, IsSameDesk, Changes};
 ghost use Rattle.kdb_cmd.specs.Meanings.{display_text, command_answer, command_meaning, words_meaning};
 
-use crate::command::arguments::{Values, values_of};
-use crate::command::breakpoints::{bl, bp, change_answer};
 use crate::command::memory_change::mm;
-use crate::command::memory_display::{md, md_count, mdr, mds};
-use crate::command::processors::{bt, btc, cpu, cpu_list};
 use crate::command::registers::{rd, rm};
 use crate::command::session_exit::{go, ss_refusal};
-use crate::command::variables::{assignment_of, env, set, two_words};
+use crate::desk::{Desk, Gathering};
 use crate::line::first_word::FirstWord;
 use crate::outcomes::{silent, stay};
-use crate::state::desk::Desk;
-use crate::state::session::Gathering;
-use crate::state::view::View;
 use crate::{Outcome, Said};
 use kdb_table::{
     Command, Diagnostic, Entry, Refusal, ShowCommand, help_text, row_of, spelled_width, word_at,
+};
+use kdb_view::{
+    Values, View, assignment_of, bl, bp, bt, btc, change_answer, cpu, cpu_list, env, md, md_count,
+    mdr, mds, set, two_words, values_of,
 };
 use mach_base::{Hart, Peek, Text};
 use std::alloc::Global;

@@ -1,4 +1,0 @@
-//! What a line sees and may change.
-pub mod desk;
-pub mod session;
-pub mod view;
