@@ -1,3 +1,2 @@
 pub mod Edge
 pub mod Memory
-pub mod Files

