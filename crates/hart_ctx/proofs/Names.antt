@@ -17,7 +17,7 @@ is_number-true (Some (X m)) n e = ap (λ k. Some (X k)) (eqb-true m n e)
 is_number-true (Some Pc) n e = absurd (false≢true e)
 
 -- whether the test holds of every number below
-abbrev all_below : (ℕ → Bool) → ℕ → Bool
+abbrev pub all_below : (ℕ → Bool) → ℕ → Bool
 all_below test zero = true
 all_below test (suc n) = test n && all_below test n
 
@@ -29,7 +29,8 @@ same_or_below : (test : ℕ → Bool) (n k : ℕ) (b : Bool) → eqb k n ≡ b �
 same_or_below test n k true same here below lt = ap test (eqb-true k n same) ∙ here
 same_or_below test n k false other here below lt = below (grind arith)
 
-below_all : (test : ℕ → Bool) (n k : ℕ) → k < n → all_below test n ≡ true → test k ≡ true
+-- what the test says of each number below, it says of this one
+pub below_all : (test : ℕ → Bool) (n k : ℕ) → k < n → all_below test n ≡ true → test k ≡ true
 below_all test zero k lt e = absurd (omega arith)
 below_all test (suc n) k lt e =
     same_or_below test n k (eqb k n) refl (both (test n) (all_below test n) e).0 (λ below. below_all test n k below (both (test n) (all_below test n) e).1) lt

@@ -13,5 +13,7 @@ mod register_name;
 mod reservation;
 
 pub use context::Context;
-pub use register_name::{BadReg, RegName, names_are_read, reg_name, reg_of};
+pub use register_name::{
+    BadReg, RegName, names_are_read, numbers_name_registers, reg_name, reg_of,
+};
 pub use reservation::{end_reservations, granule_of, is_among};

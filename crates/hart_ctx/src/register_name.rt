@@ -1,5 +1,6 @@
-ghost use Rattle.std.specs.Prelude.{◌≡◌, ◌<◌, [], slice_index_or, Some, None, IfSome, IfOk, IfErr};
+ghost use Rattle.std.specs.Prelude.{◌≡◌, ◌↔◌, ℕ, ◌<◌, List, [], ◌++◌, codes, slice_index_or, Some, None, IfSome, IfOk, IfErr};
 ghost use Rattle.std.specs.Result.{result_ok};
+ghost use Rattle.mach_base.specs.Number.{dec_text};
 ghost use Rattle.hart_ctx.specs.RegisterName.{name_of, abi_names, abi_number, x_number, bare, register_of, register_named, IsRegister};
 
 /// A register as the debugger names it: an integer register by its number, 0 to 31, or the pc.
@@ -133,6 +134,12 @@ pub fn names_are_read(reg: RegName)
 {
     let _reg = reg;
 }
+
+/// A text is the name of a register by its number exactly where that number is below 32 and the text is `x` and the
+/// number's decimal digits, without leading zeros. The call does nothing; its contract says so to callers.
+pub fn numbers_name_registers()
+    ensures { (name : List ℕ) (number : ℕ) → (x_number name ≡ Some number) ↔ ((number < 32) × (name ≡ codes "x" ++ dec_text number)) }
+{}
 
 #[cfg(test)]
 mod tests {

@@ -1,4 +1,5 @@
-ghost use Rattle.std.specs.Prelude.{◌≤◌, length, IfOk};
+ghost use Rattle.std.specs.Prelude.{◌≤◌, length, IfOk, OnOk};
+ghost use Rattle.std.specs.Io.KnownBytes.{Appends};
 
 use arrayvec::ArrayString;
 use std::alloc::Global;
@@ -58,8 +59,11 @@ fn replace<R: Files>(
     bytes: &[u8],
     permissions: Option<Permissions>,
 ) -> io::Result<()> {
-    let NewFile { file, path: beside } = create_beside(rt, path)?;
-    let outcome = match fill(file, bytes, permissions) {
+    let NewFile {
+        mut file,
+        path: beside,
+    } = create_beside(rt, path)?;
+    let outcome = match fill(&mut file, bytes, permissions) {
         Ok(()) => fs::rename(rt, beside.as_str(), path),
         Err(error) => Err(error),
     };
@@ -92,12 +96,15 @@ fn path_beside(path: &str, number: u8) -> Option<LongPath> {
     Some(beside)
 }
 
-/// Writes a new file, and waits until the system keeps its bytes.
+/// Writes a new file, and waits until the system keeps its bytes. Ok means that a file which tells its bytes has taken all
+/// of these, in order.
 fn fill<F: Write + OpenFile + Drop>(
-    mut file: F,
+    file: &mut F,
     bytes: &[u8],
     permissions: Option<Permissions>,
-) -> io::Result<()> {
+) -> io::Result<()>
+    ensures { OnOk result (Appends (F.contents file.old) (F.contents file.new) bytes.now) }
+{
     if let Some(permissions) = permissions {
         file.set_permissions(permissions)?;
     }

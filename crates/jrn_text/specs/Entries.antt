@@ -75,6 +75,7 @@ is_entry harts (Off AllHalted) = true
 is_entry harts (Off StepLimit) = true
 is_entry harts (Off PlanEnd) = false
 
+-- an entry that a journal of this many harts may have
 abbrev pub IsEntry : ℕ → Entry → Type 0
 IsEntry harts e = is_entry harts e ≡ true
 

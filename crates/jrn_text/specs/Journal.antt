@@ -1,5 +1,5 @@
 -- The text of a journal, and where a text stops being one.
-use Rattle.std.specs.Prelude.{◌≡◌, ◌≢◌, ℕ, ◌+◌, ◌<◌, ◌&&◌, ◌⊎◌, Bool, true, nat_le, List, ◌++◌, length, codes}
+use Rattle.std.specs.Prelude.{◌≡◌, ◌≢◌, ℕ, ◌+◌, ◌<◌, ◌≤◌, ◌&&◌, ◌⊎◌, Bool, true, nat_le, List, ◌++◌, length, codes}
 use Rattle.std.specs.List.{AllByRecursion}
 use Rattle.mach_base.specs.Number.{dec_text}
 use Rattle.mach_base.specs.Texts.{newline}
@@ -22,12 +22,18 @@ journal_text harts limit entries = header_text harts limit ++ lines_text entries
 abbrev pub is_header : ℕ → ℕ → Bool
 is_header harts limit = (nat_le 1 harts && nat_le harts MOST_HARTS) && (nat_le 1 limit && nat_le limit MOST_STEPS)
 
+-- these are the numbers of a first line
 abbrev pub IsHeader : ℕ → ℕ → Type 0
 IsHeader harts limit = is_header harts limit ≡ true
 
 -- the numbers and the entries of a journal
 abbrev pub IsJournal : ℕ → ℕ → List Entry → Type 0
 IsJournal harts limit entries = IsHeader harts limit × AllByRecursion (IsEntry harts) entries
+
+-- the text is the journal of these numbers and entries, which are no more than there may be
+abbrev pub IsRead : List ℕ → ℕ → ℕ → List Entry → Type 0
+IsRead text harts limit entries =
+    IsJournal harts limit entries × (text ≡ journal_text harts limit entries) × (length entries ≤ MOST_ENTRIES)
 
 -- the text begins with no first line
 abbrev pub HasNoHeader : List ℕ → Type 0

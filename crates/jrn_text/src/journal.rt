@@ -3,7 +3,7 @@
 ghost use Rattle.std.specs.Prelude.{◌≡◌, ◌≤◌, ◌++◌, length, IfOk, MatchOption, MatchResult};
 ghost use Rattle.std.specs.List.{AllByRecursion};
 ghost use Rattle.jrn_text.specs.Entries.{is_entry, IsEntry, entry_line, lines_text};
-ghost use Rattle.jrn_text.specs.Journal.{journal_text, header_text, is_header, IsHeader, IsJournal, HasNoHeader, HasNoEntry, Explains, ExplainsLines};
+ghost use Rattle.jrn_text.specs.Journal.{journal_text, header_text, is_header, IsHeader, IsJournal, IsRead, HasNoHeader, HasNoEntry, Explains, ExplainsLines};
 
 use crate::JournalFault;
 use crate::loose::{entry_meant, numbers_meant};
@@ -59,7 +59,7 @@ pub fn write_journal(
 /// the entries are more than 8,000,000.
 #[tactic(auto, using(crate::proofs::Meaning::few_harts, crate::proofs::Lines::whole_text))]
 pub fn read_journal(alloc: Global, text: &[u8]) -> Result<Journal, JournalFault>
-    ensures { MatchResult result (λ j. IsJournal j.harts j.limit j.entries.entries × (text.now ≡ journal_text j.harts j.limit j.entries.entries) × (length j.entries.entries ≤ MOST_ENTRIES)) (Explains text.now) }
+    ensures { MatchResult result (λ j. IsRead text.now j.harts j.limit j.entries.entries) (Explains text.now) }
 {
     let mut scratch = Vec::new(alloc);
     let Some(header) = first_line(&mut scratch, text)? else {

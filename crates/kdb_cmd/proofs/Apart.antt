@@ -12,12 +12,12 @@ use Rattle.mach_base.specs.Number.{number_of}
 use Rattle.kdb_bp.specs.declared.bp_fault.BpFault.{BpFault}
 use Rattle.kdb_bp.specs.declared.bp_fault.BpFault.TheVariants.{BadAddr, NotText, Duplicate}
 use Rattle.kdb_bp.specs.Breaks.{is_at, place_at, first_empty, empty_or_fault, added, with_place, switched}
-use Rattle.kdb_cmd.specs.declared.breakpoints.Marked.{Marked}
-use Rattle.kdb_cmd.specs.declared.commands.Marking.{Marking}
-use Rattle.kdb_cmd.specs.declared.commands.Marking.TheVariants.{Clear, Disable, Enable}
-use Rattle.kdb_cmd.specs.declared.diagnostics.Diagnostic.{Diagnostic}
-use Rattle.kdb_cmd.specs.declared.diagnostics.Diagnostic.TheVariants as diagnostic
-use Rattle.kdb_cmd.specs.Breakpoints.{Places, bp_marked, new_place_or_diagnostic, changed, changed_at, changed_first, all_changed, changed_or, one_changed, number_changed, word_changed}
+use Rattle.kdb_view.specs.declared.breakpoints.BreakpointAnswer.{BreakpointAnswer}
+use Rattle.kdb_table.specs.declared.commands.BreakpointChange.{BreakpointChange}
+use Rattle.kdb_table.specs.declared.commands.BreakpointChange.TheVariants.{Clear, Disable, Enable}
+use Rattle.kdb_table.specs.declared.diagnostics.Diagnostic.{Diagnostic}
+use Rattle.kdb_table.specs.declared.diagnostics.Diagnostic.TheVariants as diagnostic
+use Rattle.kdb_view.specs.Breakpoints.{Places, bp_answer, new_place_or_diagnostic, changed, changed_at, changed_first, all_changed, change_or_diagnostic, one_changed, number_changed, change_answer}
 use Rattle.kdb_cmd.specs.Limits.{AreBreakpoints}
 
 -- what stands in a list of places once one of them is another
@@ -61,61 +61,61 @@ AreAmong-sound m old new among sound = record {
 }
 
 -- a place that is set to one of the same address, or emptied
-changed-address : (marking : Marking) (o : Option Place) (p : Place) → changed marking o ≡ Some p → (q : Place) × (o ≡ Some q) × (q.addr ≡ p.addr)
+changed-address : (change : BreakpointChange) (o : Option Place) (p : Place) → changed change o ≡ Some p → (q : Place) × (o ≡ Some q) × (q.addr ≡ p.addr)
 changed-address Clear o p is = absurd (cc)
 changed-address Disable None p is = absurd (cc)
 changed-address Disable (Some q) p is = (q, refl, cc)
 changed-address Enable None p is = absurd (cc)
 changed-address Enable (Some q) p is = (q, refl, cc)
 
-set-among : (marking : Marking) (places : Places) (n : ℕ) → AreAmong places (slice_set places n (changed marking (place_at places n)))
-set-among marking places n = record {
-  many = length-set places n (changed marking (place_at places n));
+set-among : (change : BreakpointChange) (places : Places) (n : ℕ) → AreAmong places (slice_set places n (changed change (place_at places n)))
+set-among change places n = record {
+  many = length-set places n (changed change (place_at places n));
   there = λ i p is.
-      elim (set-cases places n (changed marking (place_at places n)) i p is) [
+      elim (set-cases places n (changed change (place_at places n)) i p is) [
         | inl here ↦
-            let old = changed-address marking (place_at places n) p here.1 in
+            let old = changed-address change (place_at places n) p here.1 in
             (old.0, ap (λ (k : ℕ). place_at places k) here.0 ∙ old.1, old.2)
         | inr there ↦ (p, there, refl)
       ];
 }
 
-changed_at-among : (marking : Marking) (places : Places) (n : ℕ) → AreAmong places (unwrap_or (changed_at marking places n) places)
-changed_at-among marking places n =
-    elim (is_none (place_at places n)) as (λ b. AreAmong places (unwrap_or (cond b None (Some (slice_set places n (changed marking (place_at places n))))) places)) [
+changed_at-among : (change : BreakpointChange) (places : Places) (n : ℕ) → AreAmong places (unwrap_or (changed_at change places n) places)
+changed_at-among change places n =
+    elim (is_none (place_at places n)) as (λ b. AreAmong places (unwrap_or (cond b None (Some (slice_set places n (changed change (place_at places n))))) places)) [
       | true ↦ AreAmong-same places
-      | false ↦ set-among marking places n
+      | false ↦ set-among change places n
     ]
 
-changed_first-among : (marking : Marking) (places : Places) (n : ℕ) → AreAmong places (changed_first marking places n)
-changed_first-among marking places zero = AreAmong-same places
-changed_first-among marking places (suc n) =
-    AreAmong-then places (changed_first marking places n) _ (changed_first-among marking places n) (changed_at-among marking (changed_first marking places n) n)
+changed_first-among : (change : BreakpointChange) (places : Places) (n : ℕ) → AreAmong places (changed_first change places n)
+changed_first-among change places zero = AreAmong-same places
+changed_first-among change places (suc n) =
+    AreAmong-then places (changed_first change places n) _ (changed_first-among change places n) (changed_at-among change (changed_first change places n) n)
 
 -- a refusal says nothing
-abbrev Among : Places → Result Marked Diagnostic → Type 0
-Among places r = IfOk r (λ marked. AreAmong places marked.breaks)
+abbrev Among : Places → Result BreakpointAnswer Diagnostic → Type 0
+Among places r = IfOk r (λ answer. AreAmong places answer.breaks)
 
-changed_or-among : (places : Places) (marking : Marking) (n : ℕ) → Among places (changed_or marking n (changed_at marking places n))
-changed_or-among places marking n =
-    elim (is_none (place_at places n)) as (λ b. Among places (changed_or marking n (cond b None (Some (slice_set places n (changed marking (place_at places n))))))) [
+changed_or-among : (places : Places) (change : BreakpointChange) (n : ℕ) → Among places (change_or_diagnostic change n (changed_at change places n))
+changed_or-among places change n =
+    elim (is_none (place_at places n)) as (λ b. Among places (change_or_diagnostic change n (cond b None (Some (slice_set places n (changed change (place_at places n))))))) [
       | true ↦ tt
-      | false ↦ set-among marking places n
+      | false ↦ set-among change places n
     ]
 
-either-among : (places : Places) (test : Bool) (r other : Result Marked Diagnostic) → Among places r → Among places other → Among places (cond test r other)
+either-among : (places : Places) (test : Bool) (r other : Result BreakpointAnswer Diagnostic) → Among places r → Among places other → Among places (cond test r other)
 either-among places true r other p q = p
 either-among places false r other p q = q
 
-number_changed-among : (places : Places) (marking : Marking) (r : Result ℕ NumFault) → Among places (number_changed places marking r)
-number_changed-among places marking (Ok n) =
-    either-among places (nat_lt n PLACES) (changed_or marking n (changed_at marking places n)) (Err (diagnostic.NoBreakpoint n)) (changed_or-among places marking n) tt
-number_changed-among places marking (Err why) = tt
+number_changed-among : (places : Places) (change : BreakpointChange) (r : Result ℕ NumFault) → Among places (number_changed places change r)
+number_changed-among places change (Ok n) =
+    either-among places (nat_lt n PLACES) (change_or_diagnostic change n (changed_at change places n)) (Err (diagnostic.NoBreakpoint n)) (changed_or-among places change n) tt
+number_changed-among places change (Err why) = tt
 
-pub word_changed-among : (places : Places) (marking : Marking) (word : List ℕ) → Among places (word_changed places marking word)
-unfolding word_changed
-word_changed-among places marking word =
-    either-among places (bytes_eq word (codes "*")) (Ok (all_changed places marking)) (number_changed places marking (number_of 10 word)) (changed_first-among marking places PLACES) (number_changed-among places marking (number_of 10 word))
+pub change_answer-among : (places : Places) (change : BreakpointChange) (word : List ℕ) → Among places (change_answer places change word)
+unfolding change_answer
+change_answer-among places change word =
+    either-among places (bytes_eq word (codes "*")) (Ok (all_changed places change)) (number_changed places change (number_of 10 word)) (changed_first-among change places PLACES) (number_changed-among places change (number_of 10 word))
 
 or-none : (a b : Bool) → a ≡ true → (a || b) ≡ false → ⊥
 or-none true b is never = false≢true (sym never)
@@ -175,13 +175,13 @@ pub record StaySound (m : Memory) (old : Places) (new : Places) : Type 0 where
   pub many : length new ≡ length old
   pub sound : AreBreakpoints m old → AreBreakpoints m new
 
-new_place_or_diagnostic-sound : (s : LineState) (addr : ℕ) (r : Result ℕ BpFault) → added s.memory s.places addr ≡ r → IfOk (new_place_or_diagnostic s addr r) (λ marked. StaySound s.memory s.places marked.breaks)
+new_place_or_diagnostic-sound : (s : LineState) (addr : ℕ) (r : Result ℕ BpFault) → added s.memory s.places addr ≡ r → IfOk (new_place_or_diagnostic s addr r) (λ answer. StaySound s.memory s.places answer.breaks)
 new_place_or_diagnostic-sound s addr (Ok n) is = record {
   many = length-set s.places n _;
   sound = with_place-sound s.memory s.places n addr (added-new s.memory s.places addr n is);
 }
 new_place_or_diagnostic-sound s addr (Err why) is = tt
 
-pub bp_marked-sound : (s : LineState) (addr : ℕ) → IfOk (bp_marked s addr) (λ marked. StaySound s.memory s.places marked.breaks)
-unfolding bp_marked
-bp_marked-sound s addr = new_place_or_diagnostic-sound s addr (added s.memory s.places addr) refl
+pub bp_answer-sound : (s : LineState) (addr : ℕ) → IfOk (bp_answer s addr) (λ answer. StaySound s.memory s.places answer.breaks)
+unfolding bp_answer
+bp_answer-sound s addr = new_place_or_diagnostic-sound s addr (added s.memory s.places addr) refl

@@ -10,31 +10,33 @@ use Rattle.kdb_mem.specs.Changed.{modify_refusal}
 use Rattle.kdb_reg.specs.Registers.{is_zero, with_named, set_text}
 use Rattle.kdb_env.specs.Variables.{Variables, AreVariables}
 use Rattle.kdb_macro.specs.Macros.{MacroList, AreMacros}
-use Rattle.kdb_cmd.specs.declared.arguments.Values.{Values}
-use Rattle.kdb_cmd.specs.declared.breakpoints.Marked.{Marked}
-use Rattle.kdb_cmd.specs.declared.commands.Command.{Command}
-use Rattle.kdb_cmd.specs.declared.commands.Command.TheVariants as command
-use Rattle.kdb_cmd.specs.declared.diagnostics.Diagnostic.{Diagnostic}
-use Rattle.kdb_cmd.specs.declared.diagnostics.Diagnostic.TheVariants as diagnostic
+use Rattle.kdb_view.specs.declared.arguments.Values.{Values}
+use Rattle.kdb_view.specs.declared.breakpoints.BreakpointAnswer.{BreakpointAnswer}
+use Rattle.kdb_table.specs.declared.commands.Command.{Command}
+use Rattle.kdb_table.specs.declared.commands.Command.TheVariants as command
+use Rattle.kdb_table.specs.declared.diagnostics.Diagnostic.{Diagnostic}
+use Rattle.kdb_table.specs.declared.diagnostics.Diagnostic.TheVariants as diagnostic
 use Rattle.kdb_cmd.specs.declared.outcomes.Outcome.TheVariants.{Stay, Go}
-use Rattle.kdb_cmd.specs.declared.registers.RegisterWrite.{RegisterWrite}
-use Rattle.kdb_cmd.specs.declared.session.Gathering.{Gathering}
-use Rattle.kdb_cmd.specs.Answer.{Answer, current_context, with_current}
-use Rattle.kdb_cmd.specs.Words.{word_at}
-use Rattle.kdb_cmd.specs.Arguments.{address}
-use Rattle.kdb_cmd.specs.ChangedMemory.{with_memory_write, write_or_diagnostic, write_answer}
-use Rattle.kdb_cmd.specs.Registers.{rm_wanted, register_set, rm_answer}
-use Rattle.kdb_cmd.specs.Breakpoints.{Places, bp_marked, word_changed}
-use Rattle.kdb_cmd.specs.Processors.{cpu_chosen}
-use Rattle.kdb_cmd.specs.Variables.{assignment_of, variables_set, set_answer}
-use Rattle.kdb_cmd.specs.Leaving.{with_pc, go_answer, ss_refusal, step_unless, ss_answer}
-use Rattle.kdb_cmd.specs.Meanings.{printing, with_breaks, with_chosen, shown_text, command_answer}
-use Rattle.kdb_cmd.specs.Macros.{line_stored, macro_begun}
+use Rattle.kdb_cmd.specs.declared.command.registers.RegisterWrite.{RegisterWrite}
+use Rattle.kdb_cmd.specs.declared.desk.Gathering.{Gathering}
+use Rattle.kdb_view.specs.State.{current_context}
+use Rattle.kdb_cmd.specs.Answer.{Answer, with_current}
+use Rattle.kdb_table.specs.Words.{word_at}
+use Rattle.kdb_view.specs.Arguments.{address}
+use Rattle.kdb_cmd.specs.command.MemoryChange.{with_memory_write, write_or_diagnostic, write_answer}
+use Rattle.kdb_cmd.specs.command.Registers.{rm_wanted, register_set, rm_answer}
+use Rattle.kdb_view.specs.Breakpoints.{Places, bp_answer, change_answer}
+use Rattle.kdb_view.specs.Processors.{cpu_answer}
+use Rattle.kdb_view.specs.Variables.{assignment_of, variables_after}
+use Rattle.kdb_cmd.specs.command.SetVariable.{set_answer}
+use Rattle.kdb_cmd.specs.command.SessionExit.{with_pc, go_answer, ss_refusal, step_unless, ss_answer}
+use Rattle.kdb_cmd.specs.Meanings.{printing, with_breaks, with_processor, display_text, command_answer}
+use Rattle.kdb_cmd.specs.MacroDefinition.{macros_after_line, macros_after_defcmd}
 use Rattle.kdb_cmd.specs.Line.{macros_of, with_macros, line_said}
 use Rattle.kdb_cmd.specs.Limits.{AreBreakpoints, WithinLimits, Keeps}
 use Rattle.kdb_cmd.proofs.Walk.{after_any, after, either, IsOfLines, holds_of_lines}
-use Rattle.kdb_cmd.proofs.Apart.{AreAmong, AreAmong-sound, StaySound, word_changed-among, bp_marked-sound}
-use Rattle.kdb_cmd.proofs.Limits.{variables_set-are, macro_begun-are, line_stored-are}
+use Rattle.kdb_cmd.proofs.Apart.{AreAmong, AreAmong-sound, StaySound, change_answer-among, bp_answer-sound}
+use Rattle.kdb_cmd.proofs.Limits.{variables_after-are, macro_begun-are, line_stored-are}
 
 Keeps-same : (s : LineState) → Keeps s s
 Keeps-same s = record { segments = refl; symbols = refl; harts = refl; limits = λ w. w }
@@ -98,7 +100,7 @@ rm-keeps words s =
 -- `set`
 set-keeps : (pair : List ℕ × List ℕ) (s : LineState) → Kept s (set_answer pair s)
 set-keeps pair s =
-    after (λ (new : Variables). AreVariables s.variables → AreVariables new) (λ (answer : Answer). Keeps s answer.state) (variables_set s.variables pair) _ (variables_set-are s.variables pair) (λ new are. record {
+    after (λ (new : Variables). AreVariables s.variables → AreVariables new) (λ (answer : Answer). Keeps s answer.state) (variables_after s.variables pair) _ (variables_after-are s.variables pair) (λ new are. record {
       segments = refl;
       symbols = refl;
       harts = refl;
@@ -143,16 +145,16 @@ go-keeps pc entry s =
 -- a command
 command-keeps : (g : Gathering) (c : Command) (words : List (List ℕ)) (v : Values) (s : LineState) → Kept s (command_answer c words v g s)
 unfolding command_answer
-command-keeps g (command.Show what) words v s = after_any (λ (answer : Answer). Keeps s answer.state) (shown_text what (word_at words 0) v g.gathered s) _ (λ text. Keeps-same s)
+command-keeps g (command.Show what) words v s = after_any (λ (answer : Answer). Keeps s answer.state) (display_text what (word_at words 0) v g.gathered s) _ (λ text. Keeps-same s)
 command-keeps g command.Mm words v s = mm-keeps (address v) _ _ s
 command-keeps g command.MmWidth words v s = mm-keeps (address v) _ _ s
 command-keeps g command.Rm words v s = rm-keeps words s
 command-keeps g command.Bp words v s =
-    after (λ (marked : Marked). StaySound s.memory s.places marked.breaks) (λ (answer : Answer). Keeps s answer.state) (bp_marked s (address v)) (λ marked. Ok (with_breaks s marked)) (bp_marked-sound s (address v)) (λ marked stay. with_places-keeps s marked.breaks stay)
-command-keeps g (command.Mark marking) words v s =
-    after (λ (marked : Marked). AreAmong s.places marked.breaks) (λ (answer : Answer). Keeps s answer.state) (word_changed s.places marking (word_at words 1)) (λ marked. Ok (with_breaks s marked)) (word_changed-among s.places marking (word_at words 1)) (λ marked among. with_places-keeps s marked.breaks (sound-among s.memory s.places marked.breaks among))
+    after (λ (answer : BreakpointAnswer). StaySound s.memory s.places answer.breaks) (λ (answer : Answer). Keeps s answer.state) (bp_answer s (address v)) (λ answer. Ok (with_breaks s answer)) (bp_answer-sound s (address v)) (λ answer stay. with_places-keeps s answer.breaks stay)
+command-keeps g (command.Change change) words v s =
+    after (λ (answer : BreakpointAnswer). AreAmong s.places answer.breaks) (λ (answer : Answer). Keeps s answer.state) (change_answer s.places change (word_at words 1)) (λ answer. Ok (with_breaks s answer)) (change_answer-among s.places change (word_at words 1)) (λ answer among. with_places-keeps s answer.breaks (sound-among s.memory s.places answer.breaks among))
 command-keeps g command.Cpu words v s =
-    after_any (λ (answer : Answer). Keeps s answer.state) (cpu_chosen g.gathered (word_at words 1)) (λ chosen. Ok (with_chosen s chosen)) (λ chosen. with_processor-keeps s chosen.current)
+    after_any (λ (answer : Answer). Keeps s answer.state) (cpu_answer g.gathered (word_at words 1)) (λ answer. Ok (with_processor s answer)) (λ answer. with_processor-keeps s answer.current)
 command-keeps g command.SetOneWord words v s =
     after_any (λ (answer : Answer). Keeps s answer.state) (assignment_of (word_at words 1)) (λ pair. set_answer pair s) (λ pair. set-keeps pair s)
 command-keeps g command.Set words v s = set-keeps (word_at words 1, word_at words 2) s
@@ -178,8 +180,8 @@ of-lines : (g : Gathering) → IsOfLines g (λ s a. Keeps s a.state)
 of-lines g = record {
   printed = λ s text. Keeps-same s;
   command = λ c words v s. command-keeps g c words v s;
-  begun = λ words s. macros-keep s (macro_begun (macros_of s) words) (macro_begun-are (macros_of s) words);
-  stored = λ line s. macros-keep s (line_stored (macros_of s) line) (line_stored-are (macros_of s) line);
+  begun = λ words s. macros-keep s (macros_after_defcmd (macros_of s) words) (macro_begun-are (macros_of s) words);
+  stored = λ line s. macros-keep s (macros_after_line (macros_of s) line) (line_stored-are (macros_of s) line);
   filtered = λ s a out keeps. keeps;
   followed = λ s first rest keeps then. Keeps-then s first.state rest.state keeps then;
 }

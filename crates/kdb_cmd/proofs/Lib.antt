@@ -2,10 +2,8 @@ pub mod Apart
 pub mod Gathered
 pub mod Keeps
 pub mod Limits
-pub mod Places
-pub mod Printed
+pub mod Meant
 pub mod RefusedLines
 pub mod Runs
 pub mod Steps
-pub mod Usages
 pub mod Walk

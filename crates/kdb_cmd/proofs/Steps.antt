@@ -10,25 +10,26 @@ use Rattle.kdb_mem.specs.declared.mem_fault.MemFault.TheVariants.{BadAddr, TooWi
 use Rattle.kdb_mem.specs.Changed.{modify_refusal}
 use Rattle.kdb_macro.specs.Macros.{MacroList}
 use Rattle.kdb_reg.specs.Registers.{is_zero}
-use Rattle.kdb_cmd.specs.declared.arguments.Values.{Values}
-use Rattle.kdb_cmd.specs.declared.commands.Command.{Command}
-use Rattle.kdb_cmd.specs.declared.commands.Command.TheVariants as command
-use Rattle.kdb_cmd.specs.declared.diagnostics.Diagnostic.{Diagnostic}
-use Rattle.kdb_cmd.specs.declared.diagnostics.Diagnostic.TheVariants as diagnostic
+use Rattle.kdb_view.specs.declared.arguments.Values.{Values}
+use Rattle.kdb_table.specs.declared.commands.Command.{Command}
+use Rattle.kdb_table.specs.declared.commands.Command.TheVariants as command
+use Rattle.kdb_table.specs.declared.diagnostics.Diagnostic.{Diagnostic}
+use Rattle.kdb_table.specs.declared.diagnostics.Diagnostic.TheVariants as diagnostic
 use Rattle.kdb_cmd.specs.declared.outcomes.Outcome.{Outcome}
 use Rattle.kdb_cmd.specs.declared.outcomes.Outcome.TheVariants.{Stay, Go, Step}
-use Rattle.kdb_cmd.specs.declared.session.Gathering.{Gathering}
-use Rattle.kdb_cmd.specs.Answer.{Answer, current_context}
-use Rattle.kdb_cmd.specs.Words.{word_at}
-use Rattle.kdb_cmd.specs.Arguments.{address}
-use Rattle.kdb_cmd.specs.ChangedMemory.{write_or_diagnostic, write_answer}
-use Rattle.kdb_cmd.specs.Registers.{rm_wanted, register_set, rm_answer}
-use Rattle.kdb_cmd.specs.Breakpoints.{bp_marked, word_changed}
-use Rattle.kdb_cmd.specs.Processors.{cpu_chosen}
-use Rattle.kdb_cmd.specs.Variables.{assignment_of, variables_set}
-use Rattle.kdb_cmd.specs.Leaving.{go_answer, ss_refusal, step_unless, ss_answer}
-use Rattle.kdb_cmd.specs.Meanings.{shown_text, command_answer}
-use Rattle.kdb_cmd.specs.Macros.{line_stored, macro_begun}
+use Rattle.kdb_cmd.specs.declared.desk.Gathering.{Gathering}
+use Rattle.kdb_view.specs.State.{current_context}
+use Rattle.kdb_cmd.specs.Answer.{Answer}
+use Rattle.kdb_table.specs.Words.{word_at}
+use Rattle.kdb_view.specs.Arguments.{address}
+use Rattle.kdb_cmd.specs.command.MemoryChange.{write_or_diagnostic, write_answer}
+use Rattle.kdb_cmd.specs.command.Registers.{rm_wanted, register_set, rm_answer}
+use Rattle.kdb_view.specs.Breakpoints.{bp_answer, change_answer}
+use Rattle.kdb_view.specs.Processors.{cpu_answer}
+use Rattle.kdb_view.specs.Variables.{assignment_of, variables_after}
+use Rattle.kdb_cmd.specs.command.SessionExit.{go_answer, ss_refusal, step_unless, ss_answer}
+use Rattle.kdb_cmd.specs.Meanings.{display_text, command_answer}
+use Rattle.kdb_cmd.specs.MacroDefinition.{macros_after_line, macros_after_defcmd}
 use Rattle.kdb_cmd.specs.Line.{macros_of, with_macros, line_said}
 use Rattle.kdb_cmd.proofs.Walk.{after_any, either, IsOfLines, holds_of_lines}
 
@@ -69,8 +70,8 @@ unfolding go_answer
 go-runs pc entry s =
     either (λ (r : Result Answer Diagnostic). IfRuns entry r) (eqb s.current entry) _ (Err (diagnostic.EnteredOn entry)) (λ step. absurd (go-not step)) tt
 
-set-runs : (entry : ℕ) (pair : List ℕ × List ℕ) (s : LineState) → IfRuns entry (variables_set s.variables pair >>= λ vars. Ok (record { output = []; state = record s { variables = vars }; outcome = Stay }))
-set-runs entry pair s = after_any (λ (a : Answer). Runs entry a) (variables_set s.variables pair) _ (λ vars step. absurd (stay-not step))
+set-runs : (entry : ℕ) (pair : List ℕ × List ℕ) (s : LineState) → IfRuns entry (variables_after s.variables pair >>= λ vars. Ok (record { output = []; state = record s { variables = vars }; outcome = Stay }))
+set-runs entry pair s = after_any (λ (a : Answer). Runs entry a) (variables_after s.variables pair) _ (λ vars step. absurd (stay-not step))
 
 ss-cases : (here halted : Bool) (entry current : ℕ) (s : LineState) → (here ≡ true → halted ≡ false → (context_of s.harts entry).halted ≡ false) → IfRuns entry (step_unless (cond (not here) (Some (diagnostic.EnteredOn entry)) (cond halted (Some (diagnostic.IsHalted current)) None)) s)
 ss-cases true true entry current s runs = tt
@@ -87,13 +88,13 @@ ss-runs entry s =
 
 command-runs : (g : Gathering) (c : Command) (words : List (List ℕ)) (v : Values) (s : LineState) → IfRuns g.entry (command_answer c words v g s)
 unfolding command_answer
-command-runs g (command.Show what) words v s = after_any (λ (a : Answer). Runs g.entry a) (shown_text what (word_at words 0) v g.gathered s) _ (λ text step. absurd (stay-not step))
+command-runs g (command.Show what) words v s = after_any (λ (a : Answer). Runs g.entry a) (display_text what (word_at words 0) v g.gathered s) _ (λ text step. absurd (stay-not step))
 command-runs g command.Mm words v s = mm-runs g.entry _ (address v) _ s
 command-runs g command.MmWidth words v s = mm-runs g.entry _ (address v) _ s
 command-runs g command.Rm words v s = rm-runs g.entry words s
-command-runs g command.Bp words v s = after_any (λ (a : Answer). Runs g.entry a) (bp_marked s (address v)) _ (λ marked step. absurd (stay-not step))
-command-runs g (command.Mark marking) words v s = after_any (λ (a : Answer). Runs g.entry a) (word_changed s.places marking (word_at words 1)) _ (λ marked step. absurd (stay-not step))
-command-runs g command.Cpu words v s = after_any (λ (a : Answer). Runs g.entry a) (cpu_chosen g.gathered (word_at words 1)) _ (λ chosen step. absurd (stay-not step))
+command-runs g command.Bp words v s = after_any (λ (a : Answer). Runs g.entry a) (bp_answer s (address v)) _ (λ answer step. absurd (stay-not step))
+command-runs g (command.Change change) words v s = after_any (λ (a : Answer). Runs g.entry a) (change_answer s.places change (word_at words 1)) _ (λ answer step. absurd (stay-not step))
+command-runs g command.Cpu words v s = after_any (λ (a : Answer). Runs g.entry a) (cpu_answer g.gathered (word_at words 1)) _ (λ answer step. absurd (stay-not step))
 command-runs g command.SetOneWord words v s = after_any (λ (a : Answer). Runs g.entry a) (assignment_of (word_at words 1)) _ (λ pair. set-runs g.entry pair s)
 command-runs g command.Set words v s = set-runs g.entry (word_at words 1, word_at words 2) s
 command-runs g command.Ss words v s = ss-runs g.entry s
@@ -107,8 +108,8 @@ of-lines : (g : Gathering) → IsOfLines g (λ s a. Runs g.entry a)
 of-lines g = record {
   printed = λ s text step. absurd (stay-not step);
   command = λ c words v s. command-runs g c words v s;
-  begun = λ words s. any-macros (macro_begun (macros_of s) words) g.entry s;
-  stored = λ line s. any-macros (line_stored (macros_of s) line) g.entry s;
+  begun = λ words s. any-macros (macros_after_defcmd (macros_of s) words) g.entry s;
+  stored = λ line s. any-macros (macros_after_line (macros_of s) line) g.entry s;
   filtered = λ s a out runs. runs;
   followed = λ s first rest runs then. then;
 }

@@ -6,21 +6,21 @@ use Rattle.mach_base.specs.Sequence.{◌>>=◌}
 use Rattle.kdb_lex.specs.declared.lex_fault.LexFault.{LexFault}
 use Rattle.kdb_lex.specs.Line.{command_words, refusal_of as lex_refusal}
 use Rattle.kdb_macro.specs.Macros.{MacroList}
-use Rattle.kdb_cmd.specs.declared.arguments.Values.{Values}
-use Rattle.kdb_cmd.specs.declared.commands.Command.{Command}
-use Rattle.kdb_cmd.specs.declared.commands.Entry.TheVariants.{Run}
-use Rattle.kdb_cmd.specs.declared.diagnostics.Diagnostic.{Diagnostic}
-use Rattle.kdb_cmd.specs.declared.naming.Called.{Called}
-use Rattle.kdb_cmd.specs.declared.naming.Called.TheVariants as called
-use Rattle.kdb_cmd.specs.declared.session.Gathering.{Gathering}
+use Rattle.kdb_view.specs.declared.arguments.Values.{Values}
+use Rattle.kdb_table.specs.declared.commands.Command.{Command}
+use Rattle.kdb_table.specs.declared.commands.Entry.TheVariants.{Run}
+use Rattle.kdb_table.specs.declared.diagnostics.Diagnostic.{Diagnostic}
+use Rattle.kdb_cmd.specs.declared.line.first_word.FirstWord.{FirstWord}
+use Rattle.kdb_cmd.specs.declared.line.first_word.FirstWord.TheVariants as first_word
+use Rattle.kdb_cmd.specs.declared.desk.Gathering.{Gathering}
 use Rattle.kdb_cmd.specs.Answer.{Answer}
-use Rattle.kdb_cmd.specs.Table.{row_of}
-use Rattle.kdb_cmd.specs.Arguments.{values_of}
+use Rattle.kdb_table.specs.Table.{row_of}
+use Rattle.kdb_view.specs.Arguments.{values_of}
 use Rattle.kdb_cmd.specs.Meanings.{printing, command_answer, command_meaning, words_meaning, answer_or_line}
-use Rattle.kdb_cmd.specs.Naming.{named_by}
-use Rattle.kdb_cmd.specs.Cutting.{unless_refused, cut_answer}
-use Rattle.kdb_cmd.specs.Macros.{line_stored, macro_begun}
-use Rattle.kdb_cmd.specs.MacroLines.{stays, inner_meaning, inner_answer, inner_line, first_then, macro_answer, lines_in}
+use Rattle.kdb_cmd.specs.FirstWord.{first_word_of}
+use Rattle.kdb_cmd.specs.Output.{unless_refused, cut_answer}
+use Rattle.kdb_cmd.specs.MacroDefinition.{macros_after_line, macros_after_defcmd}
+use Rattle.kdb_cmd.specs.MacroLines.{goes_on, inner_meaning, inner_answer, inner_line, first_then, macro_answer, lines_in}
 use Rattle.kdb_cmd.specs.Line.{macros_of, with_macros, outer_meaning, outer_answer, macro_called, macro_or_words, words_answer, cut_line, stored_answer, line_answer}
 
 -- what holds of the outcome of a step, whatever was given
@@ -43,8 +43,8 @@ either Q false x other p q = q
 pub record IsOfLines (g : Gathering) (Q : LineState → Answer → Type 0) : Type 0 where
   pub printed : (s : LineState) (text : List ℕ) → Q s (printing s text)
   pub command : (c : Command) (words : List (List ℕ)) (v : Values) (s : LineState) → IfOk (command_answer c words v g s) (λ answer. Q s answer)
-  pub begun : (words : List (List ℕ)) (s : LineState) → IfOk (macro_begun (macros_of s) words) (λ m. Q s (with_macros s m))
-  pub stored : (line : List ℕ) (s : LineState) → IfOk (line_stored (macros_of s) line) (λ m. Q s (with_macros s m))
+  pub begun : (words : List (List ℕ)) (s : LineState) → IfOk (macros_after_defcmd (macros_of s) words) (λ m. Q s (with_macros s m))
+  pub stored : (line : List ℕ) (s : LineState) → IfOk (macros_after_line (macros_of s) line) (λ m. Q s (with_macros s m))
   pub filtered : (s : LineState) (a : Answer) (out : List ℕ) → Q s a → Q s (record a { output = out })
   pub followed : (s : LineState) (first rest : Answer) → Q s first → Q first.state rest → Q s rest
 
@@ -58,14 +58,14 @@ module _ (g : Gathering) (Q : LineState → Answer → Type 0) (of : IsOfLines g
   command-holds c words s =
       after_any (λ (answer : Answer). Q s answer) (values_of s words (row_of (Run c)).expressions) (λ v. command_answer c words v g s) (λ v. of.command c words v s)
 
-  words-hold : (c : Called) (words : List (List ℕ)) (s : LineState) → Holds s (words_meaning c words g s)
+  words-hold : (c : FirstWord) (words : List (List ℕ)) (s : LineState) → Holds s (words_meaning c words g s)
   unfolding words_meaning
-  words-hold called.Nothing words s = of.printed s []
-  words-hold (called.Command c) words s = command-holds c words s
-  words-hold called.Define words s = tt
-  words-hold (called.Macro number) words s = tt
-  words-hold called.WrongCount words s = tt
-  words-hold called.Unknown words s = tt
+  words-hold first_word.Nothing words s = of.printed s []
+  words-hold (first_word.Command c) words s = command-holds c words s
+  words-hold first_word.Define words s = tt
+  words-hold (first_word.Macro number) words s = tt
+  words-hold first_word.WrongCount words s = tt
+  words-hold first_word.Unknown words s = tt
 
   line-holds : (words : List (List ℕ)) (s : LineState) (r : Result Answer Diagnostic) → Holds s r → Q s (answer_or_line words s r)
   line-holds words s (Ok answer) holds = holds
@@ -83,43 +83,43 @@ module _ (g : Gathering) (Q : LineState → Answer → Type 0) (of : IsOfLines g
   unfolding inner_line inner_answer inner_meaning
   inner-holds line s =
       let words = command_words line in
-      cut_answer-holds line s (answer_or_line words s (words_meaning (named_by s.macros words) words g s)) (line-holds words s (words_meaning (named_by s.macros words) words g s) (words-hold (named_by s.macros words) words s))
+      cut_answer-holds line s (answer_or_line words s (words_meaning (first_word_of s.macros words) words g s)) (line-holds words s (words_meaning (first_word_of s.macros words) words g s) (words-hold (first_word_of s.macros words) words s))
 
   first_then-holds : (s : LineState) (first rest : Answer) → Q s first → Q first.state rest → Q s (first_then first rest)
   first_then-holds s first rest holds then =
-      either (λ (a : Answer). Q s a) (stays first.outcome) (record rest { output = first.output ++ rest.output }) first (of.filtered s rest _ (of.followed s first rest holds then)) holds
+      either (λ (a : Answer). Q s a) (goes_on first.outcome) (record rest { output = first.output ++ rest.output }) first (of.filtered s rest _ (of.followed s first rest holds then)) holds
 
   macro-holds : (lines : List (List ℕ)) (s : LineState) → Q s (macro_answer lines g s)
   macro-holds [] s = of.printed s []
   macro-holds (line ∷ rest) s =
       first_then-holds s (inner_line line g s) (macro_answer rest g (inner_line line g s).state) (inner-holds line s) (macro-holds rest (inner_line line g s).state)
 
-  outer-holds : (c : Called) (words : List (List ℕ)) (s : LineState) → Holds s (outer_meaning c words g s)
+  outer-holds : (c : FirstWord) (words : List (List ℕ)) (s : LineState) → Holds s (outer_meaning c words g s)
   unfolding outer_meaning
-  outer-holds called.Define words s =
-      after (λ (m : MacroList). Q s (with_macros s m)) (λ (answer : Answer). Q s answer) (macro_begun (macros_of s) words) (λ m. Ok (with_macros s m)) (of.begun words s) (λ m q. q)
-  outer-holds (called.Macro number) words s = tt
-  outer-holds called.Nothing words s = words-hold called.Nothing words s
-  outer-holds (called.Command c) words s = words-hold (called.Command c) words s
-  outer-holds called.WrongCount words s = words-hold called.WrongCount words s
-  outer-holds called.Unknown words s = words-hold called.Unknown words s
+  outer-holds first_word.Define words s =
+      after (λ (m : MacroList). Q s (with_macros s m)) (λ (answer : Answer). Q s answer) (macros_after_defcmd (macros_of s) words) (λ m. Ok (with_macros s m)) (of.begun words s) (λ m q. q)
+  outer-holds (first_word.Macro number) words s = tt
+  outer-holds first_word.Nothing words s = words-hold first_word.Nothing words s
+  outer-holds (first_word.Command c) words s = words-hold (first_word.Command c) words s
+  outer-holds first_word.WrongCount words s = words-hold first_word.WrongCount words s
+  outer-holds first_word.Unknown words s = words-hold first_word.Unknown words s
 
   macro_or_words-holds : (o : Option ℕ) (words : List (List ℕ)) (s : LineState) → Q s (macro_or_words o words g s)
   unfolding outer_answer
   macro_or_words-holds None words s =
-      line-holds words s (outer_meaning (named_by s.macros words) words g s) (outer-holds (named_by s.macros words) words s)
+      line-holds words s (outer_meaning (first_word_of s.macros words) words g s) (outer-holds (first_word_of s.macros words) words s)
   macro_or_words-holds (Some number) words s = macro-holds (lines_in (slice_get s.macros number)) s
 
   cut_line-holds : (line : List ℕ) (s : LineState) → Q s (cut_line line g s)
   unfolding cut_line words_answer
   cut_line-holds line s =
       let words = command_words line in
-      cut_answer-holds line s (macro_or_words (macro_called (named_by s.macros words) words) words g s) (macro_or_words-holds (macro_called (named_by s.macros words) words) words s)
+      cut_answer-holds line s (macro_or_words (macro_called (first_word_of s.macros words) words) words g s) (macro_or_words-holds (macro_called (first_word_of s.macros words) words) words s)
 
   stored-holds : (line : List ℕ) (s : LineState) → Q s (stored_answer line s)
   unfolding stored_answer
   stored-holds line s =
-      line-holds [] s (line_stored (macros_of s) line >>= λ m. Ok (with_macros s m)) (after (λ (m : MacroList). Q s (with_macros s m)) (λ (answer : Answer). Q s answer) (line_stored (macros_of s) line) (λ m. Ok (with_macros s m)) (of.stored line s) (λ m q. q))
+      line-holds [] s (macros_after_line (macros_of s) line >>= λ m. Ok (with_macros s m)) (after (λ (m : MacroList). Q s (with_macros s m)) (λ (answer : Answer). Q s answer) (macros_after_line (macros_of s) line) (λ m. Ok (with_macros s m)) (of.stored line s) (λ m q. q))
 
   -- it holds of every line
   pub holds_of_lines : (line : List ℕ) (s : LineState) → Q s (line_answer line g s)

@@ -1,8 +1,8 @@
 -- What a line of the debugger answers.
 use Rattle.std.specs.Prelude.{ℕ, List, slice_set}
-use Rattle.hart_ctx.specs.Context.{context_of}
 use Rattle.mach_base.specs.Machine.{Context, LineState}
 use Rattle.kdb_cmd.specs.declared.outcomes.Outcome.{Outcome}
+use Rattle.kdb_cmd.specs.declared.outcomes.Said.{Said}
 
 -- what a line prints, the state that it leaves, and whether the session goes on
 pub record Answer : Type 0 where
@@ -10,9 +10,9 @@ pub record Answer : Type 0 where
   pub state : LineState
   pub outcome : Outcome
 
--- the context of the current processor
-abbrev pub current_context : LineState → Context
-current_context s = context_of s.harts s.current
+-- what a line has printed and what follows it, with the state that it leaves
+abbrev pub answer_with : Said → LineState → Answer
+answer_with said s = record { output = said.text; state = s; outcome = said.outcome }
 
 -- the state in which the current processor has this context
 abbrev pub with_current : LineState → Context → LineState

@@ -4,13 +4,13 @@ use Rattle.mach_base.specs.Machine.{Memory, LineState}
 use Rattle.mach_base.specs.Masks.{has_bit}
 use Rattle.mach_base.specs.declared.byte_text.OutOfMemory.{OutOfMemory}
 use Rattle.kdb_cmd.specs.declared.desk.Desk.{Desk}
-use Rattle.kdb_cmd.specs.declared.diagnostics.Diagnostic.{Diagnostic}
+use Rattle.kdb_table.specs.declared.diagnostics.Diagnostic.{Diagnostic}
 use Rattle.kdb_cmd.specs.declared.outcomes.Said.{Said}
-use Rattle.kdb_cmd.specs.declared.refusals.Refusal.{Refusal}
-use Rattle.kdb_cmd.specs.declared.session.Gathering.{Gathering}
-use Rattle.kdb_cmd.specs.State.{state_of}
-use Rattle.kdb_cmd.specs.Answer.{Answer}
-use Rattle.kdb_cmd.specs.Refused.{Refuses}
+use Rattle.kdb_table.specs.declared.refusals.Refusal.{Refusal}
+use Rattle.kdb_cmd.specs.declared.desk.Gathering.{Gathering}
+use Rattle.kdb_view.specs.State.{state_of}
+use Rattle.kdb_cmd.specs.Answer.{Answer, answer_with}
+use Rattle.kdb_table.specs.Refused.{Refuses}
 
 -- the state that lies on the desk
 abbrev pub desk_state : {M : Type 0} → (M → Memory) → Desk M → LineState
@@ -34,11 +34,11 @@ pub record IsSameDesk {M R : Type 0} (rest : M → R) (before : Desk M) (after :
 -- what a command says and the state that it leaves are the ones that are meant; a refusal leaves the state
 abbrev pub Changes : {M : Type 0} → (M → Memory) → Result Said Refusal → Desk M → Desk M → (Gathering → LineState → Result Answer Diagnostic) → Type 0
 Changes memory (Ok said) before after meaning =
-    meaning before.gathering (desk_state memory before) ≡ Ok (record { output = said.text; state = desk_state memory after; outcome = said.outcome })
+    meaning before.gathering (desk_state memory before) ≡ Ok (answer_with said (desk_state memory after))
 Changes memory (Err refusal) before after meaning =
     Refuses refusal (meaning before.gathering (desk_state memory before)) × (desk_state memory after ≡ desk_state memory before)
 
 -- what a line says and the state that it leaves are the ones that are meant
 abbrev pub Says : {M : Type 0} → (M → Memory) → Result Said OutOfMemory → Desk M → Desk M → (Gathering → LineState → Answer) → Type 0
 Says memory result before after meaning = IfOk result (λ said.
-    meaning before.gathering (desk_state memory before) ≡ record { output = said.text; state = desk_state memory after; outcome = said.outcome })
+    meaning before.gathering (desk_state memory before) ≡ answer_with said (desk_state memory after))

@@ -3,18 +3,18 @@ use Rattle.std.specs.Prelude.{ℕ, ◌==◌, List, [], length, slice_get, Option
 use Rattle.mach_base.specs.Machine.{LineState}
 use Rattle.kdb_lex.specs.Line.{command_words}
 use Rattle.kdb_macro.specs.Macros.{MacroList}
-use Rattle.kdb_cmd.specs.declared.diagnostics.Diagnostic.{Diagnostic}
-use Rattle.kdb_cmd.specs.declared.diagnostics.Diagnostic.TheVariants.{WrongArguments}
-use Rattle.kdb_cmd.specs.declared.naming.Called.{Called}
-use Rattle.kdb_cmd.specs.declared.naming.Called.TheVariants.{Nothing, Command, Define, Macro, WrongCount, Unknown}
-use Rattle.kdb_cmd.specs.declared.session.Gathering.{Gathering}
+use Rattle.kdb_table.specs.declared.diagnostics.Diagnostic.{Diagnostic}
+use Rattle.kdb_table.specs.declared.diagnostics.Diagnostic.TheVariants.{WrongArguments}
+use Rattle.kdb_cmd.specs.declared.line.first_word.FirstWord.{FirstWord}
+use Rattle.kdb_cmd.specs.declared.line.first_word.FirstWord.TheVariants.{Nothing, Command, Define, Macro, WrongCount, Unknown}
+use Rattle.kdb_cmd.specs.declared.desk.Gathering.{Gathering}
 use Rattle.kdb_cmd.specs.Answer.{Answer}
 use Rattle.mach_base.specs.Sequence.{◌>>=◌}
 use Rattle.kdb_cmd.specs.Meanings.{printing, words_meaning, answer_or_line}
-use Rattle.kdb_cmd.specs.Macros.{line_stored, macro_begun}
-use Rattle.kdb_cmd.specs.Naming.{named_by}
+use Rattle.kdb_cmd.specs.MacroDefinition.{macros_after_line, macros_after_defcmd}
+use Rattle.kdb_cmd.specs.FirstWord.{first_word_of}
 use Rattle.kdb_cmd.specs.MacroLines.{macro_answer, lines_in}
-use Rattle.kdb_cmd.specs.Cutting.{cut_answer}
+use Rattle.kdb_cmd.specs.Output.{cut_answer}
 
 -- the macros of a state
 abbrev pub macros_of : LineState → MacroList
@@ -25,8 +25,8 @@ abbrev pub with_macros : LineState → MacroList → Answer
 with_macros s m = printing (record s { macros = m.macros; defining = m.defining }) []
 
 -- what a line of these words does that calls no macro as it should; a macro that is called with arguments is refused
-unfoldable pub outer_meaning : Called → List (List ℕ) → Gathering → LineState → Result Answer Diagnostic
-outer_meaning Define words g s = macro_begun (macros_of s) words >>= λ m. Ok (with_macros s m)
+unfoldable pub outer_meaning : FirstWord → List (List ℕ) → Gathering → LineState → Result Answer Diagnostic
+outer_meaning Define words g s = macros_after_defcmd (macros_of s) words >>= λ m. Ok (with_macros s m)
 outer_meaning (Macro number) words g s = Err WrongArguments
 outer_meaning Nothing words g s = words_meaning Nothing words g s
 outer_meaning (Command c) words g s = words_meaning (Command c) words g s
@@ -34,11 +34,11 @@ outer_meaning WrongCount words g s = words_meaning WrongCount words g s
 outer_meaning Unknown words g s = words_meaning Unknown words g s
 
 -- what it prints and does
-unfoldable pub outer_answer : Called → List (List ℕ) → Gathering → LineState → Answer
-outer_answer called words g s = answer_or_line words s (outer_meaning called words g s)
+unfoldable pub outer_answer : FirstWord → List (List ℕ) → Gathering → LineState → Answer
+outer_answer first_word words g s = answer_or_line words s (outer_meaning first_word words g s)
 
 -- the macro that a line of these words calls; a call has no arguments
-abbrev pub macro_called : Called → List (List ℕ) → Option ℕ
+abbrev pub macro_called : FirstWord → List (List ℕ) → Option ℕ
 macro_called (Macro number) words = if length words == 1 then Some number else None
 macro_called Nothing words = None
 macro_called (Command c) words = None
@@ -48,12 +48,12 @@ macro_called Unknown words = None
 
 -- the lines of that macro, or else the words themselves
 abbrev pub macro_or_words : Option ℕ → List (List ℕ) → Gathering → LineState → Answer
-macro_or_words None words g s = outer_answer (named_by s.macros words) words g s
+macro_or_words None words g s = outer_answer (first_word_of s.macros words) words g s
 macro_or_words (Some number) words g s = macro_answer (lines_in (slice_get s.macros number)) g s
 
 -- what a line of these words prints and does: it calls a macro, begins one, or is a command
 unfoldable pub words_answer : List (List ℕ) → Gathering → LineState → Answer
-words_answer words g s = macro_or_words (macro_called (named_by s.macros words) words) words g s
+words_answer words g s = macro_or_words (macro_called (first_word_of s.macros words) words) words g s
 
 -- a line that is cut into words
 unfoldable pub cut_line : List ℕ → Gathering → LineState → Answer
@@ -61,7 +61,7 @@ cut_line line g s = cut_answer line s (words_answer (command_words line) g s)
 
 -- a line that is read while a macro is being defined
 unfoldable pub stored_answer : List ℕ → LineState → Answer
-stored_answer line s = answer_or_line [] s (line_stored (macros_of s) line >>= λ m. Ok (with_macros s m))
+stored_answer line s = answer_or_line [] s (macros_after_line (macros_of s) line >>= λ m. Ok (with_macros s m))
 
 -- a line of a session
 unfoldable pub line_answer : List ℕ → Gathering → LineState → Answer

@@ -1,17 +1,2 @@
--- The state of a line, by its parts.
-use Rattle.std.specs.Prelude.{List}
-use Rattle.mach_base.specs.Machine.{Context, Memory, Symbol, LineState}
-use Rattle.kdb_cmd.specs.declared.session.Kdb.{Kdb}
-
--- the state that contexts, memory, what the debugger keeps, and symbols make
-abbrev pub state_of : List Context → Memory → Kdb → List Symbol → LineState
-state_of harts memory kdb symbols = record {
-  harts = harts;
-  memory = memory;
-  places = kdb.breaks;
-  variables = kdb.env;
-  macros = kdb.macros.macros;
-  defining = kdb.macros.defining;
-  symbols = symbols;
-  current = kdb.current;
-}
+-- The state of a line, by its parts, for who stands on the lines.
+pub use Rattle.kdb_view.specs.State.{state_of}

@@ -2,12 +2,18 @@ ghost use Rattle.std.specs.Prelude.{◌≡◌};
 ghost use Rattle.kdb_cmd.specs.Desk.{desk_state, IsReady};
 
 use crate::Kdb;
-use crate::session::Gathering;
-use crate::views::View;
 use hart_ctx::Context;
+use kdb_view::View;
 use mach_base::Peek;
 use std::alloc::Global;
 use sym_map::Symbols;
+
+/// The processors in a session, a bit for each by its number, and the one that the session was entered on.
+#[derive(Clone, Copy, Debug, PartialEq, Eq)]
+pub struct Gathering {
+    pub gathered: u64,
+    pub entry: u8,
+}
 
 /// What a line works on: the state that it sees and may change, the processors of the session, and the allocator.
 pub struct Desk<'c, 'k, 'm, 's, P: Peek> {
@@ -26,11 +32,6 @@ impl<P: Peek> Desk<'_, '_, '_, '_, P> {
         requires { IsReady P.memory self.now }
         ensures { result ≡ desk_state P.memory self.now }
     {
-        View {
-            mem: self.mem,
-            ctxs: self.ctxs,
-            kdb: self.kdb,
-            names: self.names,
-        }
+        View::new(self.mem, self.ctxs, self.kdb, self.names)
     }
 }

@@ -12,39 +12,17 @@
 //! It joins the debugger's crates over any memory that is a `Peek`; the machine's sessions stand on it.
 #![tactic(auto)]
 
-mod arguments;
-mod breakpoints;
-mod changed_memory;
-mod commands;
-mod cutting;
-mod defining;
+mod command;
 mod desk;
-mod diagnostics;
-mod help;
 mod laws;
-mod leaving;
-mod lines;
-mod macro_lines;
-mod meanings;
-mod naming;
+mod line;
 mod outcomes;
-mod processors;
-mod refusals;
-mod registers;
-mod session;
-mod shown_memory;
-mod sizes;
-mod table;
 #[cfg(test)]
 mod tests;
-mod variables;
-mod views;
-mod words;
 
-use diagnostics::Diagnostic;
+pub use kdb_view::Kdb;
 pub use laws::{
     lines_keep_the_limits, refused_lines_change_nothing, steps_begin_where_a_hart_runs,
 };
-pub use lines::run_line;
+pub use line::lines::run_line;
 pub use outcomes::{Outcome, Said};
-pub use session::Kdb;

@@ -8,10 +8,11 @@ use Rattle.std.specs.List.{position_from}
 use Rattle.mach_base.specs.Machine.{Symbol}
 use Rattle.sym_map.specs.Lookups.{is_at, addr_of}
 
--- the address of a name, and the number of the first symbol at an address
+-- the address of each name
 abbrev pub ByName : Type 0
 ByName = BTreeMap (Vec ℕ Global) ℕ
 
+-- the number of the first symbol at each address
 abbrev pub ByAddr : Type 0
 ByAddr = BTreeMap ℕ ℕ
 

@@ -1,7 +1,0 @@
-use Rattle.std.proofs.Common.{◌≡◌, ◌++◌}
-use Rattle.kdb_cmd.specs.Breakpoints.{first_lines}
-use Rattle.kdb_cmd.proofs.breakpoints.push_places.Given as goal
-
--- the lines so far
-abbrev pub invariant-loop-number : goal.invariant-loop-number
-invariant-loop-number l = l.out.items ≡ l.initial.out.items ++ first_lines l.names l.breaks l.number

@@ -1,7 +1,0 @@
-use Rattle.std.proofs.Common.{◌≡◌}
-use Rattle.kdb_cmd.specs.Processors.{frames_below}
-use Rattle.kdb_cmd.proofs.processors.all_frames.Given as goal
-
--- the frames so far
-abbrev pub invariant-loop-number : goal.invariant-loop-number
-invariant-loop-number g l = l.out.items ≡ frames_below l.gathered l.view l.number

@@ -1,0 +1,4 @@
+pub mod MemoryChange
+pub mod Registers
+pub mod SetVariable
+pub mod SessionExit

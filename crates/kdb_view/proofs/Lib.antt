@@ -1,0 +1,3 @@
+mod Gathered
+mod Places
+mod Printed

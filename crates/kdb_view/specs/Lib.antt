@@ -1,0 +1,7 @@
+pub mod State
+pub mod Scope
+pub mod Arguments
+pub mod MemoryDisplay
+pub mod Processors
+pub mod Breakpoints
+pub mod Variables
