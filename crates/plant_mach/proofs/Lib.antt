@@ -1,0 +1,11 @@
+pub mod Sessions
+pub mod Settled
+pub mod Shown
+pub mod Fetched
+pub mod Executes
+pub mod Opens
+pub mod Agreeing
+pub mod ReadSteps
+pub mod ReadSessions
+pub mod Ordered
+pub mod LegalLists

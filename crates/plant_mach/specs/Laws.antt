@@ -7,7 +7,7 @@ use Rattle.mach_base.specs.declared.event.Ending.{Ending}
 use Rattle.mach_base.specs.declared.event.Ending.TheVariants.{PlanEnd}
 use Rattle.mach_base.specs.declared.event.Entry.{Entry}
 use Rattle.mach_base.specs.declared.event.Entry.TheVariants.{Step, Intr, Send, Take, Open, Pull, Line, Plant, PlantStep, PullStep, Close, Off}
-use Rattle.img_text.specs.Image.{ImageRecord}
+use Rattle.img_text.specs.Image.{ImageRecord, IsImage}
 use Rattle.hart_ctx.specs.Context.{IsUnmoved}
 use Rattle.atom_mach.specs.State.{hart_count, context_at}
 use Rattle.atom_mach.specs.Limits.{IsKept}
@@ -23,9 +23,9 @@ ListsJoin = (p : PlantedMachine) (before after : List Entry) → made_by p (befo
 
 -- Order.
 
--- the machine at the start is in order
+-- the machine of an image is in order at the start
 abbrev pub StartsAreOrderly : Type 0
-StartsAreOrderly = (image : ImageRecord) (symbols : List Symbol) (lines : List (List ℕ)) (harts limit : ℕ) → IsOrderly (planted_start image symbols lines harts limit)
+StartsAreOrderly = (image : ImageRecord) (symbols : List Symbol) (lines : List (List ℕ)) (harts limit : ℕ) → IsImage image → IsOrderly (planted_start image symbols lines harts limit)
 
 -- every legal entry keeps the order
 abbrev pub EntriesKeepOrder : Type 0

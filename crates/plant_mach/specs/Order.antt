@@ -1,5 +1,8 @@
 -- What holds of the planted machine after every legal list of entries.
 use Rattle.std.specs.Prelude.{◌≡◌, ℕ, true, length, Option, Some, None}
+use Rattle.mach_base.specs.Machine.{is_text_word}
+use Rattle.mem_map.specs.Access.{access_fault}
+use Rattle.mem_map.specs.declared.rights.Access.TheVariants.{Fetch}
 use Rattle.kdb_cmd.specs.Limits.{WithinLimits as DebuggerLimits}
 use Rattle.bus_plant.specs.Planted.{IsPlanted}
 use Rattle.deck_core.specs.declared.plain.notes.Sitting.{Sitting}
@@ -35,11 +38,12 @@ abbrev pub SessionFits : Option Sitting → PlantedMachine → Type 0
 SessionFits None p = Unit {0}
 SessionFits (Some s) p = (p.machine.opened ≡ true) × PlacesFitStage s.stage (planted_of p)
 
--- The debugger is within its limits; the planted words are words of text, and no two are the same; each planted place is
--- enabled at just this address, and without a session each enabled one is planted; the session, the step word and the
--- calls fit the machine.
+-- The debugger is within its limits; each word of text can be fetched; the planted words are words of text, and no two are
+-- the same; each planted place is enabled at just this address, and without a session each enabled one is planted; the
+-- session, the step word and the calls fit the machine.
 pub record IsOrderly (p : PlantedMachine) : Type 0 where
   pub limits : DebuggerLimits p.machine.seen
+  pub text : (addr : ℕ) → is_text_word p.machine.seen.memory addr ≡ true → access_fault p.machine.seen.memory Fetch addr 4 ≡ None
   pub words : IsPlanted (memory_in p)
   pub enabled : (i addr : ℕ) → planted_at p i ≡ Some addr → enabled_at p i ≡ Some addr
   pub whole : p.session ≡ None → (i addr : ℕ) → enabled_at p i ≡ Some addr → planted_at p i ≡ Some addr

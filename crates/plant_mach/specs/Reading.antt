@@ -6,7 +6,7 @@ use Rattle.mach_base.specs.declared.event.Ending.{Ending}
 use Rattle.mach_base.specs.declared.event.Ending.TheVariants.{ScriptEnd, AllHalted, StepLimit, PlanEnd}
 use Rattle.mach_base.specs.declared.event.Entry.{Entry}
 use Rattle.mach_base.specs.declared.event.Entry.TheVariants as entry
-use Rattle.img_text.specs.Image.{ImageRecord}
+use Rattle.img_text.specs.Image.{ImageRecord, IsImage}
 use Rattle.atom_mach.specs.declared.step.AStep.{AStep}
 use Rattle.atom_mach.specs.declared.step.AStep.TheVariants.{Instr, Intr, Session, Enter, Line, End, Off}
 use Rattle.atom_mach.specs.State.{State, Done, start_state}
@@ -115,16 +115,16 @@ transcript_of start r ending = transcript start r.steps r.cut ending
 
 -- Laws.
 
--- every legal list of entries, from the start of any machine, reads as a run of the atomic machine from the same start
+-- every legal list of entries, from the start of the machine of any image, reads as a run of the atomic machine from the same start
 abbrev pub LegalListsAreRuns : Type 0
 LegalListsAreRuns =
-    (image : ImageRecord) (symbols : List Symbol) (lines : List (List ℕ)) (harts limit : ℕ) (es : List Entry) (d : Made) →
+    (image : ImageRecord) (symbols : List Symbol) (lines : List (List ℕ)) (harts limit : ℕ) (es : List Entry) (d : Made) → IsImage image →
     made_by (planted_start image symbols lines harts limit) es ≡ Some d →
     IsReading (start_state image symbols lines harts limit) (reading es) d
 
 -- what the entries print, with the line of the ending, is the transcript of that run
 abbrev pub LegalListsPrintTranscripts : Type 0
 LegalListsPrintTranscripts =
-    (image : ImageRecord) (symbols : List Symbol) (lines : List (List ℕ)) (harts limit : ℕ) (es : List Entry) (d : Made) (ending : Ending) →
+    (image : ImageRecord) (symbols : List Symbol) (lines : List (List ℕ)) (harts limit : ℕ) (es : List Entry) (d : Made) (ending : Ending) → IsImage image →
     made_by (planted_start image symbols lines harts limit) es ≡ Some d →
     transcript_of (start_state image symbols lines harts limit) (reading es) ending ≡ Some (d.text ++ ending_line ending d.next.machine.steps)
