@@ -123,3 +123,25 @@ intr-interrupted p h e =
     let shown = not_held-shown p h.0 (not_is (is_held p h.0) c.0) in
     let take : may_take (record { machine = s; mode = shown.mode }) h.0 ≡ true = both (runs shown.mode s.opened h.0) _ (shown.runs_in s.opened b.0) c.1 in
     record { mode = shown.mode; shown = shown.shown; done = intr-done (record { machine = s; mode = shown.mode }) h a.0 take }
+
+-- the instruction of a legal step doesn't fault
+pub step-right : (p : PlantedMachine) (h : Hart) → may p (entry.Step h) ≡ true → fault_of p.machine h.0 ≡ None
+unfolding may
+step-right p h e =
+    let a = and_true (is_hart p.machine h.0) _ e in
+    let b = and_true p.machine.opened _ a.1 in
+    let c = and_true (not (context_at p.machine h.0).halted) _ b.1 in
+    either_case (may_run_here p h.0) (may_pass_here p h.0) c.1 running passing
+  where
+    running : may_run_here p h.0 ≡ true → fault_of p.machine h.0 ≡ None
+    running f =
+        let s = p.machine in
+        let a = and_true (not (is_held p h.0)) _ f in
+        let b = and_true (nat_lt s.steps s.limit) _ a.1 in
+        let d = and_true (not (is_takeable (context_at s h.0))) _ b.1 in
+        not_some (fault_of s h.0) (and_true (not (is_ebreak (raw_fetched p h.0))) _ d.1).1
+
+    passing : may_pass_here p h.0 ≡ true → fault_of p.machine h.0 ≡ None
+    passing f =
+        let a = and_true (in_session (λ x. is_of h.0 x && is_pass x.stage) p.session) _ f in
+        not_some (fault_of p.machine h.0) (and_true (not (faults p h.0)) _ a.1).0

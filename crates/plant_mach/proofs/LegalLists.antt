@@ -12,6 +12,7 @@ use Rattle.deck_core.specs.declared.plain.notes.Sitting.{Sitting}
 use Rattle.deck_core.specs.declared.plain.notes.Stage.TheVariants as stage
 use Rattle.deck_core.specs.contract.Allowed.{is_lines}
 use Rattle.bus_plant.specs.Laws.{RawFetches}
+use Rattle.bus_plant.proofs.Raw.{raw_fetches-in}
 
 use Rattle.atom_mach.specs.declared.step.Mode.{Mode}
 use Rattle.atom_mach.specs.declared.step.Mode.TheVariants.{Free, Hold, Over}
@@ -114,7 +115,7 @@ reads-Off start r text p PlanEnd a ending e = absurd (false≢true e)
 -- Entries.
 
 raw : RawFetches
-raw = ?
+raw = raw_fetches-in
 
 reads_effect : (start : State) (r : Reading) (text : List ℕ) (p : PlantedMachine) (e : Entry) → IsOrderly p → Agrees start r (made_as text p) → p.ending ≡ None → may p e ≡ true → Agrees start (with_entry r e) (made_as (text ++ (effect p e).text) (effect p e).next)
 reads_effect start r text p (entry.Step h) ordered a none e = reads-Step raw start r text p h ordered a none e

@@ -7,5 +7,8 @@ pub mod Opens
 pub mod Agreeing
 pub mod ReadSteps
 pub mod ReadSessions
+pub mod Places
+pub mod Lines
 pub mod Ordered
 pub mod LegalLists
+pub mod Others

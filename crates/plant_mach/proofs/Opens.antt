@@ -1,5 +1,5 @@
 -- Openings and lines of the planted machine are those of the atomic one.
-use Rattle.std.proofs.Common.{◌≡◌, ℕ, eqb, ◌==◌, ◌&&◌, Bool, true, false, not, cond, List, [], ◌∷◌, Option, Some, None, is_some, is_none, option_map, refl, sym, ap, ◌∙◌}
+use Rattle.std.proofs.Common.{◌≡◌, ℕ, eqb, ◌==◌, ◌&&◌, Bool, true, false, not, cond, List, [], ◌∷◌, Option, Some, None, is_some, is_none, option_map, refl, sym, ap, subst, ◌∙◌}
 use Rattle.std.proofs.lemmas.Bool.{false≢true}
 use Rattle.mach_base.specs.Machine.{Machine}
 use Rattle.mach_base.specs.Masks.{has_bit}
@@ -19,9 +19,10 @@ use Rattle.atom_mach.specs.declared.step.Mode.TheVariants.{Free, Pass, Back, Lea
 use Rattle.atom_mach.specs.Traps.{fault_of, trap}
 use Rattle.atom_mach.specs.Modes.{after_go}
 use Rattle.atom_mach.specs.Session.{is_hart, opening_reason, mode_of_go, mode_left, stops_again, line_effect}
-use Rattle.atom_mach.proofs.Booleans.{and_true, not_is}
+use Rattle.atom_mach.proofs.Booleans.{and_true, is_none-None}
 use Rattle.plant_mach.specs.Machine.{PlantedMachine, mode_at, mode_in_session}
 use Rattle.plant_mach.specs.Entries.{can_sit, reason_again, reason_in, reason_now, stage_after, may}
+use Rattle.plant_mach.specs.Order.{StepFits}
 
 -- Openings.
 
@@ -33,6 +34,7 @@ pub record IsOpened (p : PlantedMachine) (m : Hart) (late : ℕ) : Type 0 where
   pub reason : reason_now p m.0 late ≡ Some why
   pub opens : opening_reason mode p.machine m.0 late ≡ Some why
   pub sits : can_sit p.machine m.0 late ≡ true
+  pub bare : StepFits p.session p.step → p.step ≡ None
 
 -- of a session at this stage
 record OpensAt (k : Hart) (was : ℕ) (g : Stage) (s : Machine) (m late : ℕ) (why : Reason) : Type 0 where
@@ -51,13 +53,13 @@ given true o x e = (refl, e)
 given false o x e = absurd (cc)
 
 opened-in : (p : PlantedMachine) (m : Hart) (late : ℕ) (why : Reason) → can_sit p.machine m.0 late ≡ true → (session : Option Sitting) → p.session ≡ session → reason_in session p m.0 late ≡ Some why → IsOpened p m late
-opened-in p m late why sits None is e = record { mode = Free; shown = ap mode_in_session is; why = why; reason = ap (λ session. reason_in session p m.0 late) is ∙ e; opens = e; sits = sits }
+opened-in p m late why sits None is e = record { mode = Free; shown = ap mode_in_session is; why = why; reason = ap (λ session. reason_in session p m.0 late) is ∙ e; opens = e; sits = sits; bare = subst (λ session. StepFits session p.step → p.step ≡ None) (sym is) (λ fits. fits) }
 opened-in p m late why sits (Some s) is e =
     let a = given (is_of m.0 s && ((s.late == late) && is_none p.step)) (reason_again p.machine m.0 s.stage) why e in
     let b = and_true (is_of m.0 s) _ a.0 in
     let c = and_true (s.late == late) (is_none p.step) b.1 in
     let at = opens-at s.master s.late s.stage p.machine m.0 late why b.0 c.0 a.1 in
-    record { mode = at.mode; shown = ap mode_in_session is ∙ at.shown; why = why; reason = ap (λ session. reason_in session p m.0 late) is ∙ e; opens = at.opens; sits = sits }
+    record { mode = at.mode; shown = ap mode_in_session is ∙ at.shown; why = why; reason = ap (λ session. reason_in session p m.0 late) is ∙ e; opens = at.opens; sits = sits; bare = λ fits. is_none-None p.step c.1 }
 
 pub open-opened : (p : PlantedMachine) (m : Hart) (late : ℕ) → may p (entry.Open m late) ≡ true → IsOpened p m late
 unfolding may
