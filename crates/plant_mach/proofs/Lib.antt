@@ -1,0 +1,14 @@
+pub mod Sessions
+pub mod Settled
+pub mod Shown
+pub mod Fetched
+pub mod Executes
+pub mod Opens
+pub mod Agreeing
+pub mod ReadSteps
+pub mod ReadSessions
+pub mod Places
+pub mod Lines
+pub mod Ordered
+pub mod LegalLists
+pub mod Others

@@ -1,0 +1,5 @@
+pub mod Machine
+pub mod Entries
+pub mod Reading
+pub mod Order
+pub mod Laws
