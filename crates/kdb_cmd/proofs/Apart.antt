@@ -1,5 +1,5 @@
 -- Breakpoints stay apart and in text, and as many places as there were.
-use Rattle.std.proofs.Common.{◌≡◌, ℕ, zero, suc, ◌%◌, eqb, ◌||◌, ◌&&◌, Bool, true, false, not, cond, List, [], ◌∷◌, length, codes, nat_lt, Option, Some, None, is_none, Result, Ok, Err, refl, sym, ap, ◌∙◌, inl, inr}
+use Rattle.std.proofs.Common.{◌≡◌, ℕ, zero, suc, ◌%◌, eqb, ◌||◌, Bool, true, false, not, cond, List, [], ◌∷◌, length, codes, nat_lt, Option, Some, None, is_none, Result, Ok, Err, refl, sym, ap, ◌∙◌, inl, inr}
 use Rattle.std.specs.Prelude.{IfOk, unwrap_or, slice_set, ◌⊎◌}
 use Rattle.std.specs.List.{list_any}
 use Rattle.std.specs.Str.{bytes_eq}
@@ -11,13 +11,13 @@ use Rattle.mach_base.specs.Machine.{Place, Memory, LineState, is_text_word}
 use Rattle.mach_base.specs.Number.{number_of}
 use Rattle.kdb_bp.specs.declared.bp_fault.BpFault.{BpFault}
 use Rattle.kdb_bp.specs.declared.bp_fault.BpFault.TheVariants.{BadAddr, NotText, Duplicate}
-use Rattle.kdb_bp.specs.Breaks.{is_at, place_at, first_empty, empty_or_fault, added, with_place, switched}
+use Rattle.kdb_bp.specs.Breaks.{is_at, place_at, first_empty, empty_or_fault, added, with_place}
 use Rattle.kdb_view.specs.declared.breakpoints.BreakpointAnswer.{BreakpointAnswer}
 use Rattle.kdb_table.specs.declared.commands.BreakpointChange.{BreakpointChange}
 use Rattle.kdb_table.specs.declared.commands.BreakpointChange.TheVariants.{Clear, Disable, Enable}
 use Rattle.kdb_table.specs.declared.diagnostics.Diagnostic.{Diagnostic}
 use Rattle.kdb_table.specs.declared.diagnostics.Diagnostic.TheVariants as diagnostic
-use Rattle.kdb_view.specs.Breakpoints.{Places, bp_answer, new_place_or_diagnostic, changed, changed_at, changed_first, all_changed, change_or_diagnostic, one_changed, number_changed, change_answer}
+use Rattle.kdb_view.specs.Breakpoints.{Places, bp_answer, new_place_or_diagnostic, changed, changed_at, changed_first, all_changed, change_or_diagnostic, number_changed, change_answer}
 use Rattle.kdb_cmd.specs.Limits.{AreBreakpoints}
 
 -- what stands in a list of places once one of them is another

@@ -1,9 +1,8 @@
 -- No line changes segments, symbols or the number of harts, and each line keeps the debugger's limits.
-use Rattle.std.proofs.Common.{◌≡◌, ℕ, eqb, ◌≤◌, Bool, true, false, cond, List, [], length, Option, Some, None, Result, Ok, Err, refl, ◌∙◌}
+use Rattle.std.proofs.Common.{ℕ, eqb, List, [], Option, Some, None, Result, Ok, Err, refl, ◌∙◌}
 use Rattle.std.specs.Prelude.{IfOk, slice_set}
 use Rattle.std.proofs.lemmas.List.{length-map, length-set}
 use Rattle.mach_base.specs.Machine.{Context, Memory, LineState}
-use Rattle.mach_base.specs.Sequence.{◌>>=◌}
 use Rattle.kdb_mem.specs.declared.mem_fault.MemFault.{MemFault}
 use Rattle.kdb_mem.specs.declared.mem_fault.MemFault.TheVariants.{BadAddr, TooWide, OutOfMemory}
 use Rattle.kdb_mem.specs.Changed.{modify_refusal}
@@ -29,11 +28,11 @@ use Rattle.kdb_view.specs.Breakpoints.{Places, bp_answer, change_answer}
 use Rattle.kdb_view.specs.Processors.{cpu_answer}
 use Rattle.kdb_view.specs.Variables.{assignment_of, variables_after}
 use Rattle.kdb_cmd.specs.command.SetVariable.{set_answer}
-use Rattle.kdb_cmd.specs.command.SessionExit.{with_pc, go_answer, ss_refusal, step_unless, ss_answer}
-use Rattle.kdb_cmd.specs.Meanings.{printing, with_breaks, with_processor, display_text, command_answer}
+use Rattle.kdb_cmd.specs.command.SessionExit.{with_pc, go_answer, ss_refusal, step_unless}
+use Rattle.kdb_cmd.specs.Meanings.{with_breaks, with_processor, display_text, command_answer}
 use Rattle.kdb_cmd.specs.MacroDefinition.{macros_after_line, macros_after_defcmd}
 use Rattle.kdb_cmd.specs.Line.{macros_of, with_macros, line_said}
-use Rattle.kdb_cmd.specs.Limits.{AreBreakpoints, WithinLimits, Keeps}
+use Rattle.kdb_cmd.specs.Limits.{Keeps}
 use Rattle.kdb_cmd.proofs.Walk.{after_any, after, either, IsOfLines, holds_of_lines}
 use Rattle.kdb_cmd.proofs.Apart.{AreAmong, AreAmong-sound, StaySound, change_answer-among, bp_answer-sound}
 use Rattle.kdb_cmd.proofs.Limits.{variables_after-are, macro_begun-are, line_stored-are}

@@ -1,5 +1,5 @@
 -- What is printed where a command's answer is the one that is meant.
-use Rattle.std.proofs.Common.{◌≡◌, ℕ, List, Result, Ok, Err, IfOk, ap, sym, ◌∙◌}
+use Rattle.std.proofs.Common.{ℕ, List, Result, Ok, Err, IfOk, ap, sym, ◌∙◌}
 use Rattle.mach_base.specs.Machine.{Memory, LineState}
 use Rattle.mach_base.specs.declared.byte_text.OutOfMemory.{OutOfMemory}
 use Rattle.kdb_table.specs.declared.diagnostics.Diagnostic.{Diagnostic}

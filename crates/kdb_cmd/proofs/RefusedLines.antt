@@ -1,12 +1,11 @@
 -- A line that is refused prints the line of its diagnostic, and changes nothing.
-use Rattle.std.proofs.Common.{◌≡◌, ℕ, Bool, true, false, cond, List, [], Option, Some, None, Result, Ok, Err, refl, ap, ◌∙◌}
+use Rattle.std.proofs.Common.{◌≡◌, ℕ, Bool, true, false, cond, List, [], Option, Some, None, Result, Ok, Err, ap, ◌∙◌}
 use Rattle.mach_base.specs.Machine.{LineState}
 use Rattle.mach_base.specs.Sequence.{◌>>=◌}
 use Rattle.kdb_lex.specs.declared.lex_fault.LexFault.{LexFault}
 use Rattle.kdb_lex.specs.Line.{command_words, line_pattern, refusal_of}
 use Rattle.kdb_macro.specs.Macros.{MacroList}
 use Rattle.kdb_table.specs.declared.diagnostics.Diagnostic.{Diagnostic}
-use Rattle.kdb_cmd.specs.declared.line.first_word.FirstWord.{FirstWord}
 use Rattle.kdb_cmd.specs.declared.desk.Gathering.{Gathering}
 use Rattle.kdb_cmd.specs.Answer.{Answer}
 use Rattle.kdb_table.specs.Diagnostics.{diagnostic_text}

@@ -1,5 +1,5 @@
 -- What holds of each command and of macros holds of every line.
-use Rattle.std.proofs.Common.{◌≡◌, ℕ, eqb, Bool, true, false, cond, List, [], ◌∷◌, ◌++◌, length, Option, Some, None, Result, Ok, Err, refl}
+use Rattle.std.proofs.Common.{ℕ, Bool, true, false, cond, List, [], ◌∷◌, ◌++◌, Option, Some, None, Result, Ok, Err}
 use Rattle.std.specs.Prelude.{IfOk, slice_get}
 use Rattle.mach_base.specs.Machine.{LineState}
 use Rattle.mach_base.specs.Sequence.{◌>>=◌}

@@ -1,5 +1,5 @@
 -- What a line works on, and what each function that works on it leaves.
-use Rattle.std.specs.Prelude.{◌≡◌, ℕ, ◌<◌, ◌^◌, true, length, Result, Ok, Err, IfOk}
+use Rattle.std.specs.Prelude.{◌≡◌, ◌<◌, ◌^◌, true, length, Result, Ok, Err, IfOk}
 use Rattle.mach_base.specs.Machine.{Memory, LineState}
 use Rattle.mach_base.specs.Masks.{has_bit}
 use Rattle.mach_base.specs.declared.byte_text.OutOfMemory.{OutOfMemory}

@@ -1,5 +1,5 @@
 -- What one line of the debugger prints and does. docs/debugger.md, "Commands", has the rules.
-use Rattle.std.specs.Prelude.{ℕ, ◌==◌, List, [], length, slice_get, Option, Some, None, Result, Ok, Err, if◌then◌else◌}
+use Rattle.std.specs.Prelude.{◌≡◌, ℕ, ◌==◌, List, [], length, slice_get, Option, Some, None, Result, Ok, Err, if◌then◌else◌}
 use Rattle.mach_base.specs.Machine.{LineState}
 use Rattle.kdb_lex.specs.Line.{command_words}
 use Rattle.kdb_macro.specs.Macros.{MacroList}
@@ -8,7 +8,8 @@ use Rattle.kdb_table.specs.declared.diagnostics.Diagnostic.TheVariants.{WrongArg
 use Rattle.kdb_cmd.specs.declared.line.first_word.FirstWord.{FirstWord}
 use Rattle.kdb_cmd.specs.declared.line.first_word.FirstWord.TheVariants.{Nothing, Command, Define, Macro, WrongCount, Unknown}
 use Rattle.kdb_cmd.specs.declared.desk.Gathering.{Gathering}
-use Rattle.kdb_cmd.specs.Answer.{Answer}
+use Rattle.kdb_cmd.specs.declared.outcomes.Said.{Said}
+use Rattle.kdb_cmd.specs.Answer.{Answer, answer_with}
 use Rattle.mach_base.specs.Sequence.{◌>>=◌}
 use Rattle.kdb_cmd.specs.Meanings.{printing, words_meaning, answer_or_line}
 use Rattle.kdb_cmd.specs.MacroDefinition.{macros_after_line, macros_after_defcmd}
@@ -71,3 +72,7 @@ line_answer line g s = if s.defining then stored_answer line s else cut_line lin
 -- session, the one that it was entered on, and the state before.
 abbrev pub line_said : ℕ → ℕ → List ℕ → LineState → Answer
 line_said gathered entry line s = line_answer line (record { gathered = gathered; entry = entry }) s
+
+-- what a line has said, and the state that it has left, are its answer in the state before
+abbrev pub LineSays : ℕ → ℕ → List ℕ → LineState → LineState → Said → Type 0
+LineSays gathered entry line before after said = line_said gathered entry line before ≡ answer_with said after

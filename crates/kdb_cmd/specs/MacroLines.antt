@@ -1,5 +1,5 @@
 -- The lines of a macro that is called.
-use Rattle.std.specs.Prelude.{ℕ, Bool, true, false, List, [], ◌∷◌, ◌++◌, Option, Some, None, Result, Err, if◌then◌else◌}
+use Rattle.std.specs.Prelude.{ℕ, Bool, true, false, List, [], ◌∷◌, ◌++◌, Option, Some, None, Result, if◌then◌else◌}
 use Rattle.mach_base.specs.Machine.{Macro as MacroRecord, LineState}
 use Rattle.kdb_lex.specs.Line.{command_words}
 use Rattle.kdb_table.specs.declared.diagnostics.Diagnostic.{Diagnostic}

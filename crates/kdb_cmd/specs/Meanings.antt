@@ -1,5 +1,5 @@
 -- What the words of a line do, by cases, one for each command.
-use Rattle.std.specs.Prelude.{ℕ, List, [], Option, Some, None, Result, Ok, Err}
+use Rattle.std.specs.Prelude.{ℕ, List, [], Result, Ok, Err}
 use Rattle.mach_base.specs.Machine.{LineState}
 use Rattle.mach_base.specs.Sequence.{◌>>=◌}
 use Rattle.kdb_reg.specs.Registers.{registers_text}

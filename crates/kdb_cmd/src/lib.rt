@@ -9,7 +9,8 @@
 //!   current one.
 //! - An *answer* is what a line prints, the state that it leaves, and the *outcome*: whether the session goes on.
 //!
-//! It joins the debugger's crates over any memory that is a `Peek`; the machine's sessions stand on it.
+//! The tables of commands and diagnostics are in `kdb_table`, what commands see and print is in `kdb_view`. It joins the
+//! debugger's crates over any memory that is a `Peek`; the machine's sessions stand on it.
 #![tactic(auto)]
 
 mod command;

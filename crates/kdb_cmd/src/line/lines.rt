@@ -1,9 +1,8 @@
 ghost use Rattle.std.specs.Prelude.{◌≡◌, ◌<◌, ◌^◌, true, false, length, IfOk, OnOk};
 ghost use Rattle.mach_base.specs.Masks.{has_bit};
 ghost use Rattle.kdb_view.specs.State.{state_of};
-ghost use Rattle.kdb_cmd.specs.Answer.{answer_with};
 ghost use Rattle.kdb_cmd.specs.Desk.{IsReady, IsSameDesk, Changes, Says};
-ghost use Rattle.kdb_cmd.specs.Line.{outer_meaning, outer_answer, macro_called, words_answer, cut_line, stored_answer, line_answer, line_said};
+ghost use Rattle.kdb_cmd.specs.Line.{outer_meaning, outer_answer, macro_called, words_answer, cut_line, stored_answer, line_answer, LineSays};
 
 use crate::desk::{Desk, Gathering};
 use crate::line::first_word::{FirstWord, first_word_of};
@@ -157,7 +156,7 @@ pub fn run_line<P: Peek>(
     requires gathered { gathered < 2 ^ length ctxs.old }
     requires current_before { has_bit gathered kdb.old.current ≡ true }
     requires entry { has_bit gathered entry.0 ≡ true }
-    ensures answer { IfOk result (λ said. line_said gathered entry.0 line.now (state_of ctxs.old (P.memory mem.old) kdb.old names.now) ≡ answer_with said (state_of ctxs.new (P.memory mem.new) kdb.new names.now)) }
+    ensures answer { IfOk result (LineSays gathered entry.0 line.now (state_of ctxs.old (P.memory mem.old) kdb.old names.now) (state_of ctxs.new (P.memory mem.new) kdb.new names.now)) }
     ensures current_there { kdb.new.current < length ctxs.new }
     ensures current { has_bit gathered kdb.new.current ≡ true }
     ensures rest { P.rest mem.new ≡ P.rest mem.old }
