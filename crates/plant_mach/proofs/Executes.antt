@@ -74,8 +74,8 @@ by_running raw p h ordered t e =
     let free : p.session ≡ None → _ = λ none. no_trap-free s h.0 t.opened t.awake (no_breakpoint p c.pc (ordered.whole none) word.0) quiet in
     let trap = shown.traps s free (no_trap-late s h.0 t.opened t.awake quiet) in
     let run : may_run (record { machine = s; mode = shown.mode }) h.0 ≡ true =
-        both (runs shown.mode s.opened h.0) _ (shown.runs_in s.opened t.opened)
-            (both (not c.halted) _ (ap not t.awake) (both (not (is_takeable c)) _ d.0 (both (nat_lt s.steps s.limit) _ b.0 (none_none (trap_in shown.mode s h.0) trap)))) in
+    both (runs shown.mode s.opened h.0) _ (shown.runs_in s.opened t.opened)
+    (both (not c.halted) _ (ap not t.awake) (both (not (is_takeable c)) _ d.0 (both (nat_lt s.steps s.limit) _ b.0 (none_none (trap_in shown.mode s h.0) trap)))) in
     record { mode = shown.mode; shown = shown.shown; done = instr-done (record { machine = s; mode = shown.mode }) h t.there (either_first _ _ run) }
 
 by_passing : (p : PlantedMachine) (h : Hart) → Tests p h.0 → may_pass_here p h.0 ≡ true → IsExecuted p h

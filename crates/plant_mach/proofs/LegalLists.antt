@@ -13,7 +13,6 @@ use Rattle.deck_core.specs.declared.plain.notes.Stage.TheVariants as stage
 use Rattle.deck_core.specs.contract.Allowed.{is_lines}
 use Rattle.bus_plant.specs.Laws.{RawFetches}
 use Rattle.bus_plant.proofs.Raw.{raw_fetches-in}
-
 use Rattle.atom_mach.specs.declared.step.Mode.{Mode}
 use Rattle.atom_mach.specs.declared.step.Mode.TheVariants.{Free, Hold, Over}
 use Rattle.atom_mach.specs.declared.step.AStep.TheVariants.{Session, Off}
@@ -69,7 +68,7 @@ script-read start steps None flag text p s a ending is lines none = by_late (eqb
         let run = settle start (record { steps = steps; cut = None; late = flag }) (made_as text p) (Hold s.master s.late) a.reading (shown ∙ held) in
         let done = script-done (record { machine = p.machine; mode = Hold s.master s.late }) s.master s.late refl none in
         agrees-run start (steps ++ (Off ScriptEnd ∷ [])) flag (text ++ (prompt_text p.machine ++ newline)) (record p { ending = Some ScriptEnd }) p.machine (Over ScriptEnd)
-            (one_more start steps text (prompt_text p.machine ++ newline) p.machine p.machine (Hold s.master s.late) (Over ScriptEnd) (Off ScriptEnd) run done) refl refl a.late
+        (one_more start steps text (prompt_text p.machine ++ newline) p.machine p.machine (Hold s.master s.late) (Over ScriptEnd) (Off ScriptEnd) run done) refl refl a.late
 script-read start steps (Some at) flag text p s a ending is lines none =
     let (c, cut, whole, machine, left) = a.reading.stands in
     let (t, seated, master, zero) = a.cut in
@@ -81,10 +80,10 @@ script-read start steps (Some at) flag text p s a ending is lines none =
     let done = cuts_end last.next at.master at.lines c cut inside (ap (λ (x : Machine). x.unread) machine ∙ none) in
     let run = run_of-snoc start steps last (Session at.master) _ a.reading.run done in
     let printed : last.text ++ (c.text ++ (prompt_text c.machine ++ newline)) ≡ text ++ (prompt_text p.machine ++ newline) =
-        sym (append_assoc last.text c.text (prompt_text c.machine ++ newline)) ∙ ap (λ t. t ++ (prompt_text c.machine ++ newline)) whole ∙ ap (λ (x : Machine). text ++ (prompt_text x ++ newline)) machine in
+    sym (append_assoc last.text c.text (prompt_text c.machine ++ newline)) ∙ ap (λ t. t ++ (prompt_text c.machine ++ newline)) whole ∙ ap (λ (x : Machine). text ++ (prompt_text x ++ newline)) machine in
     agrees-run start (steps ++ (Session at.master ∷ [])) flag (text ++ (prompt_text p.machine ++ newline)) (record p { ending = Some ScriptEnd }) p.machine (Over ScriptEnd)
-        (run ∙ ap (λ t. Some (done_as t c.machine (Over ScriptEnd))) printed ∙ ap (λ (x : Machine). Some (done_as (text ++ (prompt_text p.machine ++ newline)) x (Over ScriptEnd))) machine)
-        refl refl a.late
+    (run ∙ ap (λ t. Some (done_as t c.machine (Over ScriptEnd))) printed ∙ ap (λ (x : Machine). Some (done_as (text ++ (prompt_text p.machine ++ newline)) x (Over ScriptEnd))) machine)
+    refl refl a.late
   where
     late_of : Option Sitting → ℕ
     late_of None = 0
@@ -96,7 +95,7 @@ free-read start r text p ending a none free e =
     let shown : mode_shown p ≡ Some Free = shown-session p none ∙ ap mode_in_session free in
     let run = settle start r (made_as text p) Free a.reading shown in
     agrees-step start r (Off ending) (text ++ []) (record p { ending = Some ending }) p.machine (Over ending)
-        (one_more start (settled r).steps text [] p.machine p.machine Free (Over ending) (Off ending) run (free-done (record { machine = p.machine; mode = Free }) ending refl e)) refl refl a.late
+    (one_more start (settled r).steps text [] p.machine p.machine Free (Over ending) (Off ending) run (free-done (record { machine = p.machine; mode = Free }) ending refl e)) refl refl a.late
 
 pub reads-Off : (start : State) (r : Reading) (text : List ℕ) (p : PlantedMachine) (ending : Ending) → Agrees start r (made_as text p) → p.ending ≡ None → may p (entry.Off ending) ≡ true → Agrees start (with_entry r (entry.Off ending)) (made_as (text ++ (effect p (entry.Off ending)).text) (effect p (entry.Off ending)).next)
 unfolding effect may
@@ -153,7 +152,7 @@ reads_list start r text p (e ∷ es) d ordered a is = by_entry (λ first rest ne
     by_rest first goes_on (Some rest) g f =
         let same : prefixed first.text rest ≡ d = cc in
         subst (λ (x : Made). Agrees start (with_entries (with_entry r e) es) (made_as (text ++ x.text) x.next)) same
-            (subst (λ (t : List ℕ). Agrees start (with_entries (with_entry r e) es) (made_as t rest.next)) (append_assoc text first.text rest.text) (goes_on rest g))
+        (subst (λ (t : List ℕ). Agrees start (with_entries (with_entry r e) es) (made_as t rest.next)) (append_assoc text first.text rest.text) (goes_on rest g))
 
     by_entry : ((first rest : Made) → IsOrderly first.next → Agrees start (with_entry r e) (made_as (text ++ first.text) first.next) → made_by first.next es ≡ Some rest → Agrees start (with_entries (with_entry r e) es) (made_as ((text ++ first.text) ++ rest.text) rest.next)) →
         (o : Option Made) → makes p e ≡ o → then_made o (λ next. made_by next es) ≡ Some d → Agrees start (with_entries (with_entry r e) es) (made_as (text ++ d.text) d.next)

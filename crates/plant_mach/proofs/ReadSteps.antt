@@ -35,8 +35,8 @@ reads-Step raw start r text p h ordered a ending e =
     let next = record p { machine = executed p.machine h.0; session = option_map (after_step h.0) p.session } in
     let run = settle start r (made_as text p) x.mode a.reading (shown-session p ending ∙ x.shown) in
     agrees-step start r (Instr h) (text ++ console_text p.machine h.0) next (executed p.machine h.0) (mode_after x.mode h.0)
-        (one_more start _ text (console_text p.machine h.0) p.machine (executed p.machine h.0) x.mode (mode_after x.mode h.0) (Instr h) run x.done)
-        refl (shown-session next ending ∙ shown-after_step h.0 p.session x.mode x.shown) (late-after_step h.0 p.session r.late a.late)
+    (one_more start _ text (console_text p.machine h.0) p.machine (executed p.machine h.0) x.mode (mode_after x.mode h.0) (Instr h) run x.done)
+    refl (shown-session next ending ∙ shown-after_step h.0 p.session x.mode x.shown) (late-after_step h.0 p.session r.late a.late)
 
 pub reads-Intr : (start : State) (r : Reading) (text : List ℕ) (p : PlantedMachine) (h : Hart) → Agrees start r (made_as text p) → p.ending ≡ None → may p (entry.Intr h) ≡ true → Agrees start (with_entry r (entry.Intr h)) (made_as (text ++ (effect p (entry.Intr h)).text) (effect p (entry.Intr h)).next)
 unfolding effect
@@ -46,8 +46,8 @@ reads-Intr start r text p h a ending e =
     let shown = shown-session p ending ∙ x.shown in
     let run = settle start r (made_as text p) x.mode a.reading shown in
     agrees-step start r (Intr h) (text ++ []) next (interrupted p.machine h.0) x.mode
-        (one_more start _ text [] p.machine (interrupted p.machine h.0) x.mode x.mode (Intr h) run x.done)
-        refl shown a.late
+    (one_more start _ text [] p.machine (interrupted p.machine h.0) x.mode x.mode (Intr h) run x.done)
+    refl shown a.late
 
 -- Calls.
 
