@@ -7,32 +7,30 @@ use Rattle.mach_base.specs.declared.event.Ending.{Ending}
 use Rattle.mach_base.specs.declared.event.Ending.TheVariants.{ScriptEnd, AllHalted, StepLimit, PlanEnd}
 use Rattle.mach_base.specs.declared.event.Entry.{Entry}
 use Rattle.mach_base.specs.declared.event.Entry.TheVariants as entry
-use Rattle.img_text.specs.Image.{ImageRecord, IsImage}
+use Rattle.img_text.specs.Image.{ImageRecord}
 use Rattle.deck_core.specs.declared.plain.notes.Sitting.{Sitting}
 use Rattle.deck_core.specs.declared.plain.notes.Stage.TheVariants as stage
 use Rattle.deck_core.specs.contract.Allowed.{is_lines}
 use Rattle.bus_plant.specs.Laws.{RawFetches}
 use Rattle.bus_plant.proofs.Raw.{raw_fetches-in}
-use Rattle.atom_mach.specs.declared.step.Mode.{Mode}
 use Rattle.atom_mach.specs.declared.step.Mode.TheVariants.{Free, Hold, Over}
 use Rattle.atom_mach.specs.declared.step.AStep.TheVariants.{Session, Off}
 use Rattle.atom_mach.specs.State.{State, Done, start_state}
 use Rattle.atom_mach.specs.Texts.{ending_line}
 use Rattle.atom_mach.specs.Session.{Cut, prompt_text}
 use Rattle.atom_mach.specs.Step.{does, is_true_ending}
-use Rattle.atom_mach.specs.Run.{CutAt, run_of, transcript, last_text, with_last_text}
-use Rattle.atom_mach.proofs.Booleans.{and_true, not_is, is_none-None, taken}
+use Rattle.atom_mach.specs.Run.{CutAt, run_of, transcript, with_last_text}
+use Rattle.atom_mach.proofs.Booleans.{and_true, is_none-None, taken}
 use Rattle.atom_mach.proofs.Runs.{run_of-snoc}
 use Rattle.atom_mach.proofs.Cuts.{cuts_end}
 use Rattle.plant_mach.specs.Machine.{PlantedMachine, mode_at, mode_in_session, mode_shown, planted_of, planted_start}
-use Rattle.plant_mach.specs.Entries.{Made, prefixed, has_line, last_words, may, effect, makes, then_made, made_by}
-use Rattle.plant_mach.specs.Reading.{Reading, unread, settled, with_step, with_script_end, with_ending, with_entry, with_entries, reading, Stands, IsReading, transcript_of, LegalListsAreRuns, LegalListsPrintTranscripts}
+use Rattle.plant_mach.specs.Entries.{Made, prefixed, has_line, may, effect, makes, then_made, made_by}
+use Rattle.plant_mach.specs.Reading.{Reading, unread, settled, with_step, with_script_end, with_entry, with_entries, reading, Stands, LegalListsAreRuns, LegalListsPrintTranscripts}
 use Rattle.plant_mach.specs.Order.{IsOrderly}
-use Rattle.plant_mach.specs.Laws.{EntriesKeepOrder, StartsAreOrderly}
-use Rattle.plant_mach.proofs.Sessions.{IsOpen, in_session-open, is_lines-Lines}
-use Rattle.plant_mach.proofs.Settled.{RunsTo, done_as, one_more, settle, run-reading}
+use Rattle.plant_mach.proofs.Sessions.{in_session-open, is_lines-Lines}
+use Rattle.plant_mach.proofs.Settled.{done_as, one_more, settle}
 use Rattle.plant_mach.proofs.Shown.{shown-session}
-use Rattle.plant_mach.proofs.Agreeing.{Agrees, made_as, LateFits, CutFits, append-nothing, settled-is, agrees-run, agrees-step}
+use Rattle.plant_mach.proofs.Agreeing.{Agrees, made_as, append-nothing, agrees-run, agrees-step}
 use Rattle.plant_mach.proofs.ReadSteps.{reads-Step, reads-Intr, reads-Send, reads-Take, reads-Pull, reads-PlantStep, reads-PullStep, reads-Plant}
 use Rattle.plant_mach.proofs.ReadSessions.{reads-Open, reads-Line, reads-Close}
 use Rattle.plant_mach.proofs.Ordered.{entries_keep_order, starts_are_orderly}

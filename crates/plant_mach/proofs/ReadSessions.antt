@@ -1,37 +1,31 @@
 -- Entries of sessions: their openings, lines and closings, and the endings.
-use Rattle.std.proofs.Common.{◌≡◌, ℕ, suc, ◌+◌, eqb, ◌==◌, ◌&&◌, Bool, true, false, not, cond, List, [], ◌∷◌, ◌++◌, append_assoc, Option, Some, None, is_some, is_none, refl, sym, ap, subst, ◌∙◌, arith}
+use Rattle.std.proofs.Common.{◌≡◌, ℕ, suc, ◌+◌, eqb, ◌==◌, ◌&&◌, Bool, true, false, not, cond, List, [], ◌∷◌, ◌++◌, append_assoc, Option, Some, None, refl, sym, ap, subst, ◌∙◌, arith}
 use Rattle.std.specs.Option.{unwrap_or}
 use Rattle.std.proofs.lemmas.Bool.{false≢true, eqb-true, eq-eqb}
 use Rattle.mach_base.specs.Machine.{Machine}
-use Rattle.mach_base.specs.Texts.{newline}
-use Rattle.mach_base.specs.Masks.{has_bit}
 use Rattle.mach_base.specs.declared.event.Hart.{Hart}
-use Rattle.mach_base.specs.declared.event.Ending.{Ending}
-use Rattle.mach_base.specs.declared.event.Ending.TheVariants.{ScriptEnd, AllHalted, StepLimit, PlanEnd}
 use Rattle.mach_base.specs.declared.event.Entry.TheVariants as entry
 use Rattle.deck_core.specs.declared.plain.notes.Sitting.{Sitting}
-use Rattle.deck_core.specs.declared.plain.notes.Stage.{Stage}
 use Rattle.deck_core.specs.declared.plain.notes.Stage.TheVariants as stage
 use Rattle.deck_core.specs.contract.Allowed.{is_of, is_lines, is_leaving}
 use Rattle.atom_mach.specs.declared.step.Mode.{Mode}
-use Rattle.atom_mach.specs.declared.step.Mode.TheVariants.{Free, Hold, Leave, Over}
-use Rattle.atom_mach.specs.declared.step.AStep.TheVariants.{Session, Enter, Line, End, Off}
-use Rattle.atom_mach.specs.State.{State, Done, hart_count}
+use Rattle.atom_mach.specs.declared.step.Mode.TheVariants.{Free, Hold, Leave}
+use Rattle.atom_mach.specs.declared.step.AStep.TheVariants.{Enter, Line, End}
+use Rattle.atom_mach.specs.State.{State}
 use Rattle.atom_mach.specs.Modes.{after_go}
-use Rattle.atom_mach.specs.Session.{Cut, before_cut, is_hart, opening_reason, session_opening, prompt_text, with_read, line_effect, cut_session}
-use Rattle.atom_mach.specs.Step.{does, can_be_late, held_for, is_true_ending}
-use Rattle.atom_mach.specs.Run.{CutAt, run_of}
-use Rattle.atom_mach.proofs.Booleans.{cond_true, and_true, not_is, is_none-None}
-use Rattle.atom_mach.proofs.Runs.{run_of-snoc}
-use Rattle.atom_mach.proofs.Cuts.{cuts_begin, cuts_grow, cuts_end}
-use Rattle.plant_mach.specs.Machine.{PlantedMachine, mode_at, mode_in_session, mode_shown, planted_of, enabled_of}
-use Rattle.plant_mach.specs.Entries.{can_sit, opened_for, reason_now, has_line, stage_after, line_made, read_in, last_words, may, effect}
-use Rattle.plant_mach.specs.Reading.{Reading, settled, with_opening, with_line_in, with_closing, with_script_end, with_entry, IsReading}
-use Rattle.plant_mach.proofs.Sessions.{IsOpen, in_session-open, is_lines-Lines, is_leaving-Leaving}
+use Rattle.atom_mach.specs.Session.{Cut, before_cut, is_hart, opening_reason, session_opening, with_read, line_effect, cut_session}
+use Rattle.atom_mach.specs.Step.{does, can_be_late, held_for}
+use Rattle.atom_mach.specs.Run.{CutAt}
+use Rattle.atom_mach.proofs.Booleans.{cond_true, and_true}
+use Rattle.atom_mach.proofs.Cuts.{cuts_begin, cuts_grow}
+use Rattle.plant_mach.specs.Machine.{PlantedMachine, mode_at, mode_in_session, mode_shown, planted_of}
+use Rattle.plant_mach.specs.Entries.{can_sit, opened_for, has_line, stage_after, line_made, read_in, may, effect}
+use Rattle.plant_mach.specs.Reading.{Reading, settled, with_opening, with_line_in, with_closing, with_entry}
+use Rattle.plant_mach.proofs.Sessions.{in_session-open, is_lines-Lines, is_leaving-Leaving}
 use Rattle.plant_mach.proofs.Settled.{RunsTo, done_as, one_more, settle}
 use Rattle.plant_mach.proofs.Shown.{shown-session}
 use Rattle.plant_mach.proofs.Opens.{IsOpened, open-opened, left-shown}
-use Rattle.plant_mach.proofs.Agreeing.{Agrees, made_as, LateFits, CutFits, append-nothing, settled-is, agrees-run, agrees-settled, agrees-step}
+use Rattle.plant_mach.proofs.Agreeing.{Agrees, made_as, LateFits, append-nothing, settled-is, agrees-run}
 
 both : (a b : Bool) → a ≡ true → b ≡ true → (a && b) ≡ true
 both a b p q = rw (p, q) refl

@@ -1,5 +1,5 @@
 -- Entries that end the session's lines: instructions, interrupts, calls, and what is planted and pulled.
-use Rattle.std.proofs.Common.{◌≡◌, ℕ, ◌==◌, ◌&&◌, Bool, true, false, not, cond, List, [], ◌++◌, Option, Some, None, is_some, is_none, option_map, refl, sym, ap, subst, ◌∙◌}
+use Rattle.std.proofs.Common.{◌≡◌, ℕ, ◌&&◌, Bool, true, not, List, [], ◌++◌, Option, Some, None, is_some, is_none, option_map, refl, sym, ap, subst, ◌∙◌}
 use Rattle.std.proofs.lemmas.Bool.{false≢true}
 use Rattle.mach_base.specs.declared.event.Hart.{Hart}
 use Rattle.mach_base.specs.declared.event.Entry.TheVariants as entry
@@ -11,7 +11,7 @@ use Rattle.bus_plant.specs.Laws.{RawFetches}
 use Rattle.atom_mach.specs.declared.step.Mode.{Mode}
 use Rattle.atom_mach.specs.declared.step.Mode.TheVariants.{Free, Pass, Back}
 use Rattle.atom_mach.specs.declared.step.AStep.TheVariants.{Instr, Intr}
-use Rattle.atom_mach.specs.State.{State, context_at}
+use Rattle.atom_mach.specs.State.{State}
 use Rattle.atom_mach.specs.Traps.{executed, console_text, interrupted}
 use Rattle.atom_mach.specs.Modes.{mode_after, after_go}
 use Rattle.atom_mach.specs.Session.{is_hart}
@@ -19,10 +19,10 @@ use Rattle.atom_mach.specs.Run.{CutAt}
 use Rattle.atom_mach.specs.State.{Done}
 use Rattle.atom_mach.proofs.Booleans.{and_true, not_is, is_none-None}
 use Rattle.plant_mach.specs.Machine.{PlantedMachine, is_held, mode_at, mode_in_session, mode_shown}
-use Rattle.plant_mach.specs.Entries.{Made, after_step, is_called, step_address, may_pull_step, may, effect}
-use Rattle.plant_mach.specs.Reading.{Reading, with_entry, Stands, IsReading}
+use Rattle.plant_mach.specs.Entries.{after_step, is_called, step_address, may_pull_step, may, effect}
+use Rattle.plant_mach.specs.Reading.{Reading, with_entry, Stands}
 use Rattle.plant_mach.specs.Order.{IsOrderly, StepFits, StepFitsStage}
-use Rattle.plant_mach.proofs.Sessions.{IsOpen, in_session-open, is_pass-Pass, is_leaving-Leaving}
+use Rattle.plant_mach.proofs.Sessions.{in_session-open, is_pass-Pass, is_leaving-Leaving}
 use Rattle.plant_mach.proofs.Settled.{settle, one_more}
 use Rattle.plant_mach.proofs.Shown.{shown-session, shown-after_step, not_held-shown}
 use Rattle.plant_mach.proofs.Executes.{step-executed, intr-interrupted}
