@@ -39,7 +39,7 @@ either_second true b q = refl
 either_second false b q = q
 
 -- what allows a call while the run goes on
-allowed : (a : Act) (c : Counted) → IsGoing c → IsAllowed a c → (names_are_there a (hart_count c.machine.machine) ≡ true) × (is_legal a (told_of c) ≡ true)
+pub allowed : (a : Act) (c : Counted) → IsGoing c → IsAllowed a c → (names_are_there a (hart_count c.machine.machine) ≡ true) × (is_legal a (told_of c) ≡ true)
 unfolding is_allowed told_of
 allowed a c going e =
     let p = and_true (names_are_there a (hart_count c.machine.machine)) _ e in
@@ -83,7 +83,7 @@ enter-in c h late going below few (Some s) is e =
     let back : comes_back (is_some (fault_of c.machine.machine h.0)) s.stage ≡ true = ap (λ f. comes_back f s.stage) (sym (bit-within (faults c.machine) (hart_count c.machine.machine) h.0 below)) ∙ d.1 in
     (on_time, ap (λ t. is_some (cond t (reason_again c.machine.machine h.0 s.stage) None)) (both (is_of h.0 s) _ b.0 (both (eqb s.late late) _ b.1 d.0)) ∙ comes-again c.machine.machine h.0 s.stage back)
 
-enter-legal : (c : Counted) (h : Hart) (late : ℕ) → IsGoing c → IsAllowed (act.Enter h late) c → may c.machine (Open h late) ≡ true
+pub enter-legal : (c : Counted) (h : Hart) (late : ℕ) → IsGoing c → IsAllowed (act.Enter h late) c → may c.machine (Open h late) ≡ true
 unfolding told_of may
 enter-legal c h late going e =
     let a = allowed (act.Enter h late) c going e in
@@ -117,8 +117,8 @@ script_end-legal c h going e none =
     let a = allowed (act.Line h) c going e in
     let b = and_true (in_session (λ s. is_of h.0 s && is_lines s.stage) c.machine.session) _ a.1 in
     both (in_session (λ s. is_lines s.stage) c.machine.session) _
-        (in-other (λ s. is_of h.0 s && is_lines s.stage) (λ s. is_lines s.stage) c.machine.session (λ s f. (and_true (is_of h.0 s) _ f).1) b.0)
-        (both (eqb (planted_of c.machine) 0) _ b.1 (ap not none))
+    (in-other (λ s. is_of h.0 s && is_lines s.stage) (λ s. is_lines s.stage) c.machine.session (λ s f. (and_true (is_of h.0 s) _ f).1) b.0)
+    (both (eqb (planted_of c.machine) 0) _ b.1 (ap not none))
 
 -- the step word's place, by the next address and whether it is plantable
 step-address : (s : Machine) (pc addr : ℕ) (next : After) → is_address addr (address_of next) ≡ true → is_some (text_elsewhere s pc next) ≡ true → is_address addr (text_elsewhere s pc next) ≡ true
@@ -164,8 +164,8 @@ plant-legal c i going e =
     let d = and_true (is_none c.machine.step) _ b.1 in
     let f = and_true (has_bit (enabled_of c.machine) i) _ d.1 in
     both (in_session (λ s. is_leaving s.stage) c.machine.session) _ b.0 (both (is_none c.machine.step) _ d.0
-        (both (is_some (enabled_at c.machine i)) _ (sym (enabled-bit c.machine.machine.seen.places PLACES i lt) ∙ f.0)
-            (not-planted (planted_at c.machine i) (ap not (sym (planted-bit c.machine.places PLACES i lt)) ∙ f.1))))
+    (both (is_some (enabled_at c.machine i)) _ (sym (enabled-bit c.machine.machine.seen.places PLACES i lt) ∙ f.0)
+    (not-planted (planted_at c.machine i) (ap not (sym (planted-bit c.machine.places PLACES i lt)) ∙ f.1))))
   where
     not-planted : (o : Option ℕ) → not (is_some o) ≡ true → is_none o ≡ true
     not-planted None g = refl
@@ -208,8 +208,8 @@ pass_step-legal c h going e right =
     let b = and_true (in_session (λ x. is_of h.0 x && is_pass x.stage) c.machine.session) _ a.1 in
     let f = pass-facts c h.0 going b.0 in
     let pass : may_pass c.machine h.0 ≡ true =
-        both (in_session (λ x. is_of h.0 x && is_pass x.stage) c.machine.session) _ b.0
-            (both (not (faults c.machine h.0)) _ (ap (λ o. not (is_some o)) right) (ready-in c.machine.machine h.0 c.machine.step c.machine.session b.0 b.1)) in
+    both (in_session (λ x. is_of h.0 x && is_pass x.stage) c.machine.session) _ b.0
+    (both (not (faults c.machine h.0)) _ (ap (λ o. not (is_some o)) right) (ready-in c.machine.machine h.0 c.machine.step c.machine.session b.0 b.1)) in
     both (is_hart c.machine.machine h.0) _ a.0 (both c.machine.machine.opened _ f.0 (both (not (context_at c.machine.machine h.0).halted) _ (ap not f.1) (either_second (may_run c.machine h.0) _ pass)))
 
 pub calls_legal : CallsAreLegal

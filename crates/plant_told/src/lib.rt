@@ -11,4 +11,4 @@
 
 mod laws;
 
-pub use laws::calls_are_legal;
+pub use laws::{calls_are_legal, calls_tell, entries_leave_awake};
