@@ -1,7 +1,6 @@
 -- What agrees with a reading, and how it goes on where the session's lines are over.
-use Rattle.std.proofs.Common.{◌≡◌, ℕ, ◌==◌, Bool, true, false, not, cond, List, [], ◌∷◌, ◌++◌, Option, Some, None, option_map, refl, sym, ap, subst, ◌∙◌}
+use Rattle.std.proofs.Common.{◌≡◌, ℕ, ◌==◌, Bool, true, false, not, cond, List, [], ◌∷◌, ◌++◌, Option, Some, None, option_map, refl, sym, ap, subst}
 use Rattle.mach_base.specs.Machine.{Machine}
-use Rattle.mach_base.specs.declared.event.Hart.{Hart}
 use Rattle.deck_core.specs.declared.plain.notes.Sitting.{Sitting}
 use Rattle.deck_core.specs.contract.Allowed.{is_of}
 use Rattle.atom_mach.specs.declared.step.Mode.{Mode}

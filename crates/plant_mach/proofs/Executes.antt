@@ -1,12 +1,9 @@
 -- Instructions and interrupts of the planted machine are those of the atomic one.
-use Rattle.std.proofs.Common.{◌≡◌, ◌≢◌, ℕ, eqb, ltb, ◌==◌, ◌&&◌, ◌||◌, Bool, true, false, not, cond, [], Option, Some, None, is_some, is_none, option_map, nat_lt, refl, sym, ap, ◌∙◌}
+use Rattle.std.proofs.Common.{◌≡◌, ℕ, eqb, ◌&&◌, ◌||◌, Bool, true, false, not, [], Option, Some, None, is_some, is_none, nat_lt, refl, ap, ◌∙◌}
 use Rattle.std.proofs.lemmas.Bool.{false≢true}
-use Rattle.mach_base.specs.Machine.{Machine}
 use Rattle.mach_base.specs.declared.event.Hart.{Hart}
-use Rattle.mach_base.specs.declared.event.Fault.{Fault}
 use Rattle.mach_base.specs.declared.event.Entry.TheVariants as entry
 use Rattle.trap_ipi.specs.Interrupt.{is_takeable}
-use Rattle.deck_core.specs.declared.plain.notes.Sitting.{Sitting}
 use Rattle.deck_core.specs.contract.Allowed.{in_session, is_of, is_pass}
 use Rattle.bus_plant.specs.Laws.{RawFetches}
 use Rattle.atom_mach.specs.declared.step.Mode.{Mode}
@@ -14,16 +11,16 @@ use Rattle.atom_mach.specs.declared.step.Mode.TheVariants.{Pass}
 use Rattle.atom_mach.specs.declared.step.AStep.TheVariants.{Instr, Intr}
 use Rattle.atom_mach.specs.State.{State, context_at}
 use Rattle.atom_mach.specs.Traps.{fault_of, executed, console_text, interrupted}
-use Rattle.atom_mach.specs.Modes.{runs, owes, mode_after}
+use Rattle.atom_mach.specs.Modes.{runs, mode_after}
 use Rattle.atom_mach.specs.Session.{is_hart}
 use Rattle.atom_mach.specs.Step.{may_run, may_pass, may_take, trap_in, does}
-use Rattle.atom_mach.proofs.Booleans.{cond_true, and_true, not_is, either_case, is_none-None}
+use Rattle.atom_mach.proofs.Booleans.{cond_true, and_true, not_is, either_case}
 use Rattle.plant_mach.specs.Machine.{PlantedMachine, is_held, mode_at, mode_in_session}
-use Rattle.plant_mach.specs.Entries.{raw_fetched, is_ebreak, faults, step_address, is_step_ready, may_run as may_run_here, may_pass as may_pass_here, may}
+use Rattle.plant_mach.specs.Entries.{raw_fetched, is_ebreak, faults, may_run as may_run_here, may_pass as may_pass_here, may}
 use Rattle.plant_mach.specs.Order.{IsOrderly}
-use Rattle.plant_mach.proofs.Sessions.{IsOpen, in_session-open, is_pass-Pass}
+use Rattle.plant_mach.proofs.Sessions.{in_session-open, is_pass-Pass}
 use Rattle.plant_mach.proofs.Settled.{done_as}
-use Rattle.plant_mach.proofs.Shown.{IsShown, not_held-shown}
+use Rattle.plant_mach.proofs.Shown.{not_held-shown}
 use Rattle.plant_mach.proofs.Fetched.{no_ebreak, no_trap, no_breakpoint, no_trap-free, no_trap-late}
 
 -- a step of the atomic machine in the mode that is shown
@@ -74,8 +71,8 @@ by_running raw p h ordered t e =
     let free : p.session ≡ None → _ = λ none. no_trap-free s h.0 t.opened t.awake (no_breakpoint p c.pc (ordered.whole none) word.0) quiet in
     let trap = shown.traps s free (no_trap-late s h.0 t.opened t.awake quiet) in
     let run : may_run (record { machine = s; mode = shown.mode }) h.0 ≡ true =
-        both (runs shown.mode s.opened h.0) _ (shown.runs_in s.opened t.opened)
-            (both (not c.halted) _ (ap not t.awake) (both (not (is_takeable c)) _ d.0 (both (nat_lt s.steps s.limit) _ b.0 (none_none (trap_in shown.mode s h.0) trap)))) in
+    both (runs shown.mode s.opened h.0) _ (shown.runs_in s.opened t.opened)
+    (both (not c.halted) _ (ap not t.awake) (both (not (is_takeable c)) _ d.0 (both (nat_lt s.steps s.limit) _ b.0 (none_none (trap_in shown.mode s h.0) trap)))) in
     record { mode = shown.mode; shown = shown.shown; done = instr-done (record { machine = s; mode = shown.mode }) h t.there (either_first _ _ run) }
 
 by_passing : (p : PlantedMachine) (h : Hart) → Tests p h.0 → may_pass_here p h.0 ≡ true → IsExecuted p h

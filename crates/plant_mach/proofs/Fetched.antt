@@ -1,25 +1,18 @@
 -- A hart that fetches no `ebreak` from raw memory, and whose instruction doesn't fault, has no trap of the word; and none of
 -- a breakpoint, where each enabled place is planted.
-use Rattle.std.proofs.Common.{◌≡◌, ◌≢◌, ℕ, zero, suc, eqb, ◌==◌, ◌&&◌, ◌||◌, Bool, true, false, not, cond, rules, List, [], ◌∷◌, get_or, Option, Some, None, Result, Ok, Err, option_map, is_some, refl, sym, ap, ◌∙◌}
-use Rattle.std.specs.Prelude.{position, slice_index_or}
+use Rattle.std.proofs.Common.{◌≡◌, ℕ, zero, suc, eqb, ◌||◌, Bool, true, false, cond, rules, List, [], ◌∷◌, Option, Some, None, Result, Ok, Err, refl, sym, ap, ◌∙◌}
+use Rattle.std.specs.Prelude.{slice_index_or}
 use Rattle.std.proofs.lemmas.Bool.{false≢true, eqb-true}
 use Rattle.std.proofs.lemmas.List.Quantifiers.{position-Some}
 use Rattle.mach_base.specs.Machine.{Context, Memory, Place, Machine}
 use Rattle.mach_base.specs.declared.event.Fault.{Fault}
-use Rattle.mach_base.specs.declared.event.Reason.{Reason}
-use Rattle.mach_base.specs.declared.event.Reason.TheVariants.{Start, Compiled, Fault as FaultReason}
-use Rattle.rv_table.specs.declared.table.TheConstants.{EBREAK}
 use Rattle.rv_table.specs.Rows.{ebreak_word}
-use Rattle.mem_map.specs.Access.{fetch_result}
-use Rattle.hart_step.specs.Faults.{word_fault}
 use Rattle.kdb_bp.specs.Breaks.{is_enabled_at, first_enabled, place_at}
 use Rattle.bus_plant.specs.Planted.{IsPlanted, has_address, is_planted}
 use Rattle.bus_plant.specs.Laws.{RawFetches}
-use Rattle.atom_mach.specs.declared.step.Mode.{Mode}
-use Rattle.atom_mach.specs.declared.step.Mode.TheVariants.{Free, Hold, Pass, Back, Leave, Over}
 use Rattle.atom_mach.specs.State.{hart_count, context_at}
-use Rattle.atom_mach.specs.Traps.{fetched_at, fault_of, fault_of_fetched, trap_of_fetched, breakpoint_or, trap, late_trap}
-use Rattle.atom_mach.proofs.Booleans.{and_true, cond_false}
+use Rattle.atom_mach.specs.Traps.{fetched_at, fault_of, fault_of_fetched, trap_of_fetched, trap, late_trap}
+use Rattle.atom_mach.proofs.Booleans.{and_true}
 use Rattle.plant_mach.specs.Machine.{PlantedMachine, memory_in, planted_at, enabled_address, enabled_at}
 use Rattle.plant_mach.specs.Entries.{raw_fetched, is_ebreak}
 

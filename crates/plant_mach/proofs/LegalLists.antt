@@ -7,33 +7,30 @@ use Rattle.mach_base.specs.declared.event.Ending.{Ending}
 use Rattle.mach_base.specs.declared.event.Ending.TheVariants.{ScriptEnd, AllHalted, StepLimit, PlanEnd}
 use Rattle.mach_base.specs.declared.event.Entry.{Entry}
 use Rattle.mach_base.specs.declared.event.Entry.TheVariants as entry
-use Rattle.img_text.specs.Image.{ImageRecord, IsImage}
+use Rattle.img_text.specs.Image.{ImageRecord}
 use Rattle.deck_core.specs.declared.plain.notes.Sitting.{Sitting}
 use Rattle.deck_core.specs.declared.plain.notes.Stage.TheVariants as stage
 use Rattle.deck_core.specs.contract.Allowed.{is_lines}
 use Rattle.bus_plant.specs.Laws.{RawFetches}
 use Rattle.bus_plant.proofs.Raw.{raw_fetches-in}
-
-use Rattle.atom_mach.specs.declared.step.Mode.{Mode}
 use Rattle.atom_mach.specs.declared.step.Mode.TheVariants.{Free, Hold, Over}
 use Rattle.atom_mach.specs.declared.step.AStep.TheVariants.{Session, Off}
 use Rattle.atom_mach.specs.State.{State, Done, start_state}
 use Rattle.atom_mach.specs.Texts.{ending_line}
 use Rattle.atom_mach.specs.Session.{Cut, prompt_text}
 use Rattle.atom_mach.specs.Step.{does, is_true_ending}
-use Rattle.atom_mach.specs.Run.{CutAt, run_of, transcript, last_text, with_last_text}
-use Rattle.atom_mach.proofs.Booleans.{and_true, not_is, is_none-None, taken}
+use Rattle.atom_mach.specs.Run.{CutAt, run_of, transcript, with_last_text}
+use Rattle.atom_mach.proofs.Booleans.{and_true, is_none-None, taken}
 use Rattle.atom_mach.proofs.Runs.{run_of-snoc}
 use Rattle.atom_mach.proofs.Cuts.{cuts_end}
 use Rattle.plant_mach.specs.Machine.{PlantedMachine, mode_at, mode_in_session, mode_shown, planted_of, planted_start}
-use Rattle.plant_mach.specs.Entries.{Made, prefixed, has_line, last_words, may, effect, makes, then_made, made_by}
-use Rattle.plant_mach.specs.Reading.{Reading, unread, settled, with_step, with_script_end, with_ending, with_entry, with_entries, reading, Stands, IsReading, transcript_of, LegalListsAreRuns, LegalListsPrintTranscripts}
+use Rattle.plant_mach.specs.Entries.{Made, prefixed, has_line, may, effect, makes, then_made, made_by}
+use Rattle.plant_mach.specs.Reading.{Reading, unread, settled, with_step, with_script_end, with_entry, with_entries, reading, Stands, LegalListsAreRuns, LegalListsPrintTranscripts}
 use Rattle.plant_mach.specs.Order.{IsOrderly}
-use Rattle.plant_mach.specs.Laws.{EntriesKeepOrder, StartsAreOrderly}
-use Rattle.plant_mach.proofs.Sessions.{IsOpen, in_session-open, is_lines-Lines}
-use Rattle.plant_mach.proofs.Settled.{RunsTo, done_as, one_more, settle, run-reading}
+use Rattle.plant_mach.proofs.Sessions.{in_session-open, is_lines-Lines}
+use Rattle.plant_mach.proofs.Settled.{done_as, one_more, settle}
 use Rattle.plant_mach.proofs.Shown.{shown-session}
-use Rattle.plant_mach.proofs.Agreeing.{Agrees, made_as, LateFits, CutFits, append-nothing, settled-is, agrees-run, agrees-step}
+use Rattle.plant_mach.proofs.Agreeing.{Agrees, made_as, append-nothing, agrees-run, agrees-step}
 use Rattle.plant_mach.proofs.ReadSteps.{reads-Step, reads-Intr, reads-Send, reads-Take, reads-Pull, reads-PlantStep, reads-PullStep, reads-Plant}
 use Rattle.plant_mach.proofs.ReadSessions.{reads-Open, reads-Line, reads-Close}
 use Rattle.plant_mach.proofs.Ordered.{entries_keep_order, starts_are_orderly}
@@ -69,7 +66,7 @@ script-read start steps None flag text p s a ending is lines none = by_late (eqb
         let run = settle start (record { steps = steps; cut = None; late = flag }) (made_as text p) (Hold s.master s.late) a.reading (shown ∙ held) in
         let done = script-done (record { machine = p.machine; mode = Hold s.master s.late }) s.master s.late refl none in
         agrees-run start (steps ++ (Off ScriptEnd ∷ [])) flag (text ++ (prompt_text p.machine ++ newline)) (record p { ending = Some ScriptEnd }) p.machine (Over ScriptEnd)
-            (one_more start steps text (prompt_text p.machine ++ newline) p.machine p.machine (Hold s.master s.late) (Over ScriptEnd) (Off ScriptEnd) run done) refl refl a.late
+        (one_more start steps text (prompt_text p.machine ++ newline) p.machine p.machine (Hold s.master s.late) (Over ScriptEnd) (Off ScriptEnd) run done) refl refl a.late
 script-read start steps (Some at) flag text p s a ending is lines none =
     let (c, cut, whole, machine, left) = a.reading.stands in
     let (t, seated, master, zero) = a.cut in
@@ -81,10 +78,10 @@ script-read start steps (Some at) flag text p s a ending is lines none =
     let done = cuts_end last.next at.master at.lines c cut inside (ap (λ (x : Machine). x.unread) machine ∙ none) in
     let run = run_of-snoc start steps last (Session at.master) _ a.reading.run done in
     let printed : last.text ++ (c.text ++ (prompt_text c.machine ++ newline)) ≡ text ++ (prompt_text p.machine ++ newline) =
-        sym (append_assoc last.text c.text (prompt_text c.machine ++ newline)) ∙ ap (λ t. t ++ (prompt_text c.machine ++ newline)) whole ∙ ap (λ (x : Machine). text ++ (prompt_text x ++ newline)) machine in
+    sym (append_assoc last.text c.text (prompt_text c.machine ++ newline)) ∙ ap (λ t. t ++ (prompt_text c.machine ++ newline)) whole ∙ ap (λ (x : Machine). text ++ (prompt_text x ++ newline)) machine in
     agrees-run start (steps ++ (Session at.master ∷ [])) flag (text ++ (prompt_text p.machine ++ newline)) (record p { ending = Some ScriptEnd }) p.machine (Over ScriptEnd)
-        (run ∙ ap (λ t. Some (done_as t c.machine (Over ScriptEnd))) printed ∙ ap (λ (x : Machine). Some (done_as (text ++ (prompt_text p.machine ++ newline)) x (Over ScriptEnd))) machine)
-        refl refl a.late
+    (run ∙ ap (λ t. Some (done_as t c.machine (Over ScriptEnd))) printed ∙ ap (λ (x : Machine). Some (done_as (text ++ (prompt_text p.machine ++ newline)) x (Over ScriptEnd))) machine)
+    refl refl a.late
   where
     late_of : Option Sitting → ℕ
     late_of None = 0
@@ -96,7 +93,7 @@ free-read start r text p ending a none free e =
     let shown : mode_shown p ≡ Some Free = shown-session p none ∙ ap mode_in_session free in
     let run = settle start r (made_as text p) Free a.reading shown in
     agrees-step start r (Off ending) (text ++ []) (record p { ending = Some ending }) p.machine (Over ending)
-        (one_more start (settled r).steps text [] p.machine p.machine Free (Over ending) (Off ending) run (free-done (record { machine = p.machine; mode = Free }) ending refl e)) refl refl a.late
+    (one_more start (settled r).steps text [] p.machine p.machine Free (Over ending) (Off ending) run (free-done (record { machine = p.machine; mode = Free }) ending refl e)) refl refl a.late
 
 pub reads-Off : (start : State) (r : Reading) (text : List ℕ) (p : PlantedMachine) (ending : Ending) → Agrees start r (made_as text p) → p.ending ≡ None → may p (entry.Off ending) ≡ true → Agrees start (with_entry r (entry.Off ending)) (made_as (text ++ (effect p (entry.Off ending)).text) (effect p (entry.Off ending)).next)
 unfolding effect may
@@ -153,7 +150,7 @@ reads_list start r text p (e ∷ es) d ordered a is = by_entry (λ first rest ne
     by_rest first goes_on (Some rest) g f =
         let same : prefixed first.text rest ≡ d = cc in
         subst (λ (x : Made). Agrees start (with_entries (with_entry r e) es) (made_as (text ++ x.text) x.next)) same
-            (subst (λ (t : List ℕ). Agrees start (with_entries (with_entry r e) es) (made_as t rest.next)) (append_assoc text first.text rest.text) (goes_on rest g))
+        (subst (λ (t : List ℕ). Agrees start (with_entries (with_entry r e) es) (made_as t rest.next)) (append_assoc text first.text rest.text) (goes_on rest g))
 
     by_entry : ((first rest : Made) → IsOrderly first.next → Agrees start (with_entry r e) (made_as (text ++ first.text) first.next) → made_by first.next es ≡ Some rest → Agrees start (with_entries (with_entry r e) es) (made_as ((text ++ first.text) ++ rest.text) rest.next)) →
         (o : Option Made) → makes p e ≡ o → then_made o (λ next. made_by next es) ≡ Some d → Agrees start (with_entries (with_entry r e) es) (made_as (text ++ d.text) d.next)

@@ -1,8 +1,8 @@
 -- No line changes which accesses to memory fault.
-use Rattle.std.proofs.Common.{◌≡◌, ℕ, zero, suc, ◌+◌, ◌<◌, ◌≤◌, eqb, ◌&&◌, Bool, true, false, List, [], Option, Some, None, Result, Ok, Err, refl, ap, ◌∙◌, arith}
+use Rattle.std.proofs.Common.{◌≡◌, ℕ, zero, suc, ◌+◌, ◌≤◌, eqb, ◌&&◌, Bool, true, List, [], Option, Some, None, Result, Ok, Err, refl, ap, ◌∙◌, arith}
 use Rattle.std.specs.Prelude.{IfOk, is_some}
 use Rattle.mach_base.specs.Machine.{Memory, LineState, byte_at}
-use Rattle.mach_base.specs.Bytes.{is_mapped, all_bytes, with_value}
+use Rattle.mach_base.specs.Bytes.{is_mapped, all_bytes}
 use Rattle.mem_map.specs.Access.{access_fault, after_store}
 use Rattle.mem_map.specs.declared.rights.Access.{Access}
 use Rattle.mem_map.proofs.Stores.{write_keeps}
@@ -31,7 +31,7 @@ use Rattle.kdb_cmd.specs.Answer.{Answer, with_current}
 use Rattle.kdb_cmd.specs.command.MemoryChange.{with_memory_write, write_or_diagnostic, write_answer}
 use Rattle.kdb_cmd.specs.command.Registers.{rm_wanted, register_set, rm_answer}
 use Rattle.kdb_cmd.specs.command.SetVariable.{set_answer}
-use Rattle.kdb_cmd.specs.command.SessionExit.{with_pc, go_answer, ss_refusal, step_unless, ss_answer}
+use Rattle.kdb_cmd.specs.command.SessionExit.{with_pc, go_answer, ss_refusal, step_unless}
 use Rattle.kdb_cmd.specs.Meanings.{with_breaks, with_processor, display_text, command_answer}
 use Rattle.kdb_cmd.specs.MacroDefinition.{macros_after_line, macros_after_defcmd}
 use Rattle.kdb_cmd.specs.Line.{macros_of, with_macros, line_said}

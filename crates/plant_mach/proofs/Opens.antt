@@ -1,12 +1,9 @@
 -- Openings and lines of the planted machine are those of the atomic one.
-use Rattle.std.proofs.Common.{◌≡◌, ℕ, eqb, ◌==◌, ◌&&◌, Bool, true, false, not, cond, List, [], ◌∷◌, Option, Some, None, is_some, is_none, option_map, refl, sym, ap, subst, ◌∙◌}
+use Rattle.std.proofs.Common.{◌≡◌, ℕ, eqb, ◌==◌, ◌&&◌, Bool, true, false, cond, List, Option, Some, None, is_some, is_none, refl, sym, ap, subst, ◌∙◌}
 use Rattle.std.proofs.lemmas.Bool.{false≢true}
 use Rattle.mach_base.specs.Machine.{Machine}
-use Rattle.mach_base.specs.Masks.{has_bit}
 use Rattle.mach_base.specs.declared.event.Hart.{Hart}
-use Rattle.mach_base.specs.declared.event.Fault.{Fault}
 use Rattle.mach_base.specs.declared.event.Reason.{Reason}
-use Rattle.mach_base.specs.declared.event.Reason.TheVariants as reason
 use Rattle.mach_base.specs.declared.event.Entry.TheVariants as entry
 use Rattle.kdb_cmd.specs.declared.outcomes.Outcome.{Outcome}
 use Rattle.kdb_cmd.specs.declared.outcomes.Outcome.TheVariants.{Stay, Go, Step}
@@ -16,9 +13,8 @@ use Rattle.deck_core.specs.declared.plain.notes.Stage.TheVariants as stage
 use Rattle.deck_core.specs.contract.Allowed.{is_of}
 use Rattle.atom_mach.specs.declared.step.Mode.{Mode}
 use Rattle.atom_mach.specs.declared.step.Mode.TheVariants.{Free, Pass, Back, Leave}
-use Rattle.atom_mach.specs.Traps.{fault_of, trap}
-use Rattle.atom_mach.specs.Modes.{after_go}
-use Rattle.atom_mach.specs.Session.{is_hart, opening_reason, mode_of_go, mode_left, stops_again, line_effect}
+use Rattle.atom_mach.specs.Traps.{trap}
+use Rattle.atom_mach.specs.Session.{opening_reason, mode_left, stops_again, line_effect}
 use Rattle.atom_mach.proofs.Booleans.{and_true, is_none-None}
 use Rattle.plant_mach.specs.Machine.{PlantedMachine, mode_at, mode_in_session}
 use Rattle.plant_mach.specs.Entries.{can_sit, reason_again, reason_in, reason_now, stage_after, may}

@@ -1,16 +1,14 @@
 -- The machine is in order at the start, and every legal entry keeps the order.
-use Rattle.std.proofs.Common.{◌≡◌, ◌≢◌, ℕ, zero, suc, ◌+◌, ◌%◌, ◌≤◌, ◌<◌, ◌^◌, eqb, ◌==◌, ◌&&◌, ◌||◌, Bool, true, false, not, cond, List, [], ◌∷◌, length, replicate, Option, Some, None, is_some, is_none, Result, Ok, Err, option_map, refl, sym, ap, subst, ◌∙◌, ◌⊎◌, inl, inr, arith, rules}
-use Rattle.std.specs.Prelude.{slice_index_or, slice_set, is_ok, nat_lt}
+use Rattle.std.proofs.Common.{◌≡◌, ℕ, zero, suc, ◌%◌, ◌≤◌, ◌<◌, ◌^◌, eqb, ◌==◌, ◌&&◌, Bool, true, false, not, cond, List, [], ◌∷◌, length, replicate, Option, Some, None, is_some, is_none, Result, Ok, Err, option_map, refl, sym, ap, subst, ◌∙◌, ◌⊎◌, inl, inr, arith}
+use Rattle.std.specs.Prelude.{slice_index_or, slice_set, nat_lt}
 use Rattle.std.proofs.lemmas.Bool.{false≢true, eqb-true, ltb-true, cases_lt}
 use Rattle.std.proofs.lemmas.List.{length-set, length-replicate, get_or_past}
 use Rattle.std.proofs.lemmas.List.FromFn.{length-map-range_with_len}
-use Rattle.mach_base.specs.Machine.{Memory, Part, Place, Machine, LineState, Symbol, is_text_word, is_text_segment, segment_at, memory_of}
+use Rattle.mach_base.specs.Machine.{Memory, Part, Place, Machine, is_text_word, is_text_segment, segment_at, memory_of}
 use Rattle.mach_base.specs.Masks.{has_bit}
 use Rattle.mach_base.specs.declared.limits.TheConstants.{PLACES}
 use Rattle.mach_base.specs.declared.event.Hart.{Hart}
 use Rattle.mach_base.specs.declared.event.Fault.{Fault}
-use Rattle.mach_base.specs.declared.event.Reason.{Reason}
-use Rattle.mach_base.specs.declared.event.Ending.TheVariants.{ScriptEnd, AllHalted, StepLimit, PlanEnd}
 use Rattle.mach_base.specs.declared.event.Entry.{Entry}
 use Rattle.mach_base.specs.declared.event.Entry.TheVariants as entry
 use Rattle.img_text.specs.Boot.{first_context}
@@ -20,14 +18,11 @@ use Rattle.mem_map.specs.declared.rights.Access.{Access}
 use Rattle.mem_map.specs.declared.rights.Access.TheVariants.{Fetch}
 use Rattle.mem_map.proofs.Lookups.{is_ok-text}
 use Rattle.hart_step.specs.declared.control.After.TheVariants.{At, Nowhere}
-use Rattle.hart_step.specs.Faults.{word_fault}
-use Rattle.hart_step.specs.Execution.{memory_after}
 use Rattle.hart_step.proofs.Frame.{keeps_faults}
 use Rattle.kdb_bp.specs.Breaks.{place_at}
 use Rattle.kdb_env.proofs.Allowed.{AreVariables-defaults}
 use Rattle.kdb_macro.specs.Macros.{AreMacros}
-use Rattle.kdb_cmd.specs.Limits.{WithinLimits as DebuggerLimits}
-use Rattle.bus_plant.specs.Planted.{PlantedMemory, IsPlanted, AreText, AreDistinct, planted_addresses, is_planted, has_address}
+use Rattle.bus_plant.specs.Planted.{PlantedMemory, IsPlanted, planted_addresses, is_planted, has_address}
 use Rattle.bus_plant.proofs.Stay.{keep_planted}
 use Rattle.bus_plant.proofs.WithWords.{text-same, faultless}
 use Rattle.deck_core.specs.declared.plain.notes.Sitting.{Sitting}
@@ -35,19 +30,18 @@ use Rattle.deck_core.specs.declared.plain.notes.Stage.{Stage}
 use Rattle.deck_core.specs.declared.plain.notes.Stage.TheVariants as stage
 use Rattle.deck_core.specs.contract.Allowed.{is_of, is_lines, is_pass, is_leaving, is_address}
 use Rattle.atom_mach.specs.State.{hart_count, context_at, start_state}
-use Rattle.atom_mach.specs.Traps.{fetched_at, fault_of, fault_of_fetched, next_pc, executed, interrupted}
+use Rattle.atom_mach.specs.Traps.{fetched_at, fault_of, fault_of_fetched, next_pc, executed}
 use Rattle.atom_mach.specs.Modes.{IsSitting}
-use Rattle.atom_mach.specs.Session.{Cut, is_hart, entered, session_opening, with_read, line_effect}
-use Rattle.atom_mach.specs.Limits.{IsKept}
+use Rattle.atom_mach.specs.Session.{is_hart, with_read, line_effect}
 use Rattle.atom_mach.proofs.Booleans.{and_true, not_is, is_none-None, taken}
 use Rattle.atom_mach.proofs.StartWithin.{debugger_within}
 use Rattle.atom_mach.proofs.Kept.{executed_kept, interrupted_kept, entered_kept, line_kept}
 use Rattle.plant_mach.specs.Machine.{PlantedMachine, planted_start, memory_in, planted_at, enabled_at, enabled_address, planted_of, enabled_of}
-use Rattle.plant_mach.specs.Entries.{Made, after_pass, after_step, can_sit, opened_for, reason_now, has_line, stage_after, line_made, read_in, step_address, text_elsewhere, may_pull_step, may, effect, makes}
+use Rattle.plant_mach.specs.Entries.{Made, after_pass, after_step, opened_for, has_line, stage_after, line_made, read_in, step_address, text_elsewhere, may, effect, makes}
 use Rattle.plant_mach.specs.Order.{IsSeated, StepFits, StepFitsStage, PlacesFitStage, SessionFits, IsOrderly}
 use Rattle.plant_mach.specs.Laws.{EntriesKeepOrder, StartsAreOrderly}
 use Rattle.plant_mach.proofs.Sessions.{IsOpen, in_session-open, is_lines-Lines, is_leaving-Leaving, is_pass-Pass}
-use Rattle.plant_mach.proofs.Opens.{IsOpened, open-opened}
+use Rattle.plant_mach.proofs.Opens.{open-opened}
 use Rattle.plant_mach.proofs.Executes.{step-right}
 use Rattle.plant_mach.proofs.Lines.{line_keeps_faults}
 use Rattle.plant_mach.proofs.Places.{planted-bit, enabled-bit, none_planted, no_address, set-cases}

@@ -1,28 +1,25 @@
 -- Lists of entries, entries that are never legal, and what entries keep.
-use Rattle.std.proofs.Common.{◌≡◌, ◌≢◌, ℕ, ◌+◌, ◌≤◌, eqb, ◌==◌, ◌&&◌, Bool, true, false, not, List, [], ◌∷◌, ◌++◌, append_assoc, Option, Some, None, is_none, option_map, nat_lt, refl, sym, ap, subst, ◌∙◌, arith}
+use Rattle.std.proofs.Common.{◌≡◌, ◌≢◌, ℕ, ◌≤◌, eqb, ◌&&◌, Bool, true, false, List, [], ◌∷◌, ◌++◌, append_assoc, Option, Some, None, is_none, option_map, refl, sym, ap, subst, ◌∙◌, arith}
 use Rattle.std.proofs.lemmas.Bool.{false≢true, eqb-true, eq-eqb, ltb-true, lt-ltb}
-use Rattle.mach_base.specs.Machine.{Machine}
 use Rattle.mach_base.specs.declared.event.Hart.{Hart}
 use Rattle.mach_base.specs.declared.event.Ending.{Ending}
-use Rattle.mach_base.specs.declared.event.Ending.TheVariants.{ScriptEnd, AllHalted, StepLimit, PlanEnd}
+use Rattle.mach_base.specs.declared.event.Ending.TheVariants.{PlanEnd}
 use Rattle.mach_base.specs.declared.event.Entry.{Entry}
 use Rattle.mach_base.specs.declared.event.Entry.TheVariants.{Step, Intr, Send, Take, Open, Pull, Line, Plant, PlantStep, PullStep, Close, Off}
 use Rattle.hart_ctx.specs.Context.{IsUnmoved}
 use Rattle.deck_core.specs.declared.plain.notes.Sitting.{Sitting}
-use Rattle.deck_core.specs.contract.Allowed.{in_session, is_of, is_lines, is_leaving}
+use Rattle.deck_core.specs.contract.Allowed.{is_of, is_lines, is_leaving}
 use Rattle.atom_mach.specs.State.{hart_count, context_at}
-use Rattle.atom_mach.specs.Traps.{executed, interrupted}
-use Rattle.atom_mach.specs.Session.{is_hart, entered, with_read, line_effect}
+use Rattle.atom_mach.specs.Session.{is_hart}
 use Rattle.atom_mach.specs.Limits.{IsKept}
 use Rattle.atom_mach.proofs.Booleans.{and_true, taken, cond_false, and_first, and_second}
 use Rattle.atom_mach.proofs.Frame.{IsUnmoved-same, instructions_leave, interrupts_leave}
 use Rattle.atom_mach.proofs.Kept.{IsKept-same, executed_kept, interrupted_kept, entered_kept, line_kept}
-use Rattle.plant_mach.specs.Machine.{PlantedMachine, planted_of}
-use Rattle.plant_mach.specs.Entries.{Made, can_sit, opened_for, reason_now, has_line, read_in, may, effect, makes, prefixed, then_made, made_by}
+use Rattle.plant_mach.specs.Machine.{PlantedMachine}
+use Rattle.plant_mach.specs.Entries.{Made, can_sit, opened_for, reason_now, read_in, may, effect, makes, prefixed, then_made, made_by}
 use Rattle.plant_mach.specs.Order.{IsSeated, IsOrderly}
 use Rattle.plant_mach.specs.Laws.{ListsJoin, hart_named, NeverLegal, is_own, EntriesLeaveOthers, EntriesKeep}
 use Rattle.plant_mach.proofs.Sessions.{in_session-open}
-use Rattle.plant_mach.proofs.Opens.{open-opened}
 use Rattle.plant_mach.proofs.Executes.{step-right}
 
 -- Lists.

@@ -1,5 +1,5 @@
 -- Places by their numbers, and masks of them.
-use Rattle.std.proofs.Common.{◌≡◌, ◌≢◌, ℕ, zero, suc, ◌<◌, ◌≤◌, eqb, ◌||◌, Bool, true, false, cond, List, [], ◌∷◌, length, get_or, Option, Some, None, is_some, refl, sym, ap, ◌∙◌, ◌⊎◌, inl, inr, arith}
+use Rattle.std.proofs.Common.{◌≡◌, ℕ, zero, suc, ◌<◌, ◌≤◌, eqb, ◌||◌, Bool, true, false, cond, List, [], ◌∷◌, length, Option, Some, None, is_some, refl, sym, ap, ◌∙◌, ◌⊎◌, inl, inr, arith}
 use Rattle.std.specs.Prelude.{slice_index_or, slice_set}
 use Rattle.std.proofs.lemmas.Bool.{false≢true, eqb-true, cases_eq, cases_lt}
 use Rattle.std.proofs.lemmas.List.{get_or-set_same, get_or-set_other, get_or_past, length-set}
@@ -8,15 +8,11 @@ use Rattle.mach_base.specs.Masks.{has_bit, mask_with}
 use Rattle.mach_base.proofs.Bits.{has_bit-zero, has_bit-with_same, has_bit-with_other}
 use Rattle.kdb_bp.specs.Breaks.{place_at}
 use Rattle.bus_plant.specs.Planted.{has_address, planted_mask}
-use Rattle.plant_mach.specs.Machine.{enabled_address, enabled_mask}
+use Rattle.plant_mach.specs.Machine.{mask_where, enabled_address, enabled_mask}
 
 -- The mask of the first so many numbers that pass a test.
-mask_where : (ℕ → Bool) → ℕ → ℕ
-mask_where test zero = 0
-mask_where test (suc n) = cond (test n) (mask_with (mask_where test n) n) (mask_where test n)
 
-bit-past : (test : ℕ → Bool) (n k : ℕ) → n ≤ k → has_bit (mask_where test n) k ≡ false
-unfolding mask_where
+pub bit-past : (test : ℕ → Bool) (n k : ℕ) → n ≤ k → has_bit (mask_where test n) k ≡ false
 bit-past test zero k h = has_bit-zero k
 bit-past test (suc n) k h = by_test (test n) (bit-past test n k (omega arith))
   where
@@ -24,8 +20,7 @@ bit-past test (suc n) k h = by_test (test n) (bit-past test n k (omega arith))
     by_test true before = has_bit-with_other (mask_where test n) n k (λ e. omega arith) ∙ before
     by_test false before = before
 
-bit-within : (test : ℕ → Bool) (n k : ℕ) → k < n → has_bit (mask_where test n) k ≡ test k
-unfolding mask_where
+pub bit-within : (test : ℕ → Bool) (n k : ℕ) → k < n → has_bit (mask_where test n) k ≡ test k
 bit-within test zero k h = absurd (omega arith)
 bit-within test (suc n) k h = by_number (cases_eq k n) (λ below. bit-within test n k below)
   where
@@ -44,13 +39,11 @@ bit-within test (suc n) k h = by_number (cases_eq k n) (λ below. bit-within tes
     by_number (inl e) before = ap (has_bit (mask_where test (suc n))) e ∙ here (test n) ∙ ap test (sym e)
     by_number (inr ne) before = elsewhere (test n) ne ∙ before (below_other ne)
 
-planted-where : (places : List (Option ℕ)) (n : ℕ) → planted_mask places n ≡ mask_where (λ k. is_some (slice_index_or places k None)) n
-unfolding mask_where
+pub planted-where : (places : List (Option ℕ)) (n : ℕ) → planted_mask places n ≡ mask_where (λ k. is_some (slice_index_or places k None)) n
 planted-where places zero = refl
 planted-where places (suc n) = ap (λ m. cond (is_some (slice_index_or places n None)) (mask_with m n) m) (planted-where places n)
 
-enabled-where : (places : List (Option Place)) (n : ℕ) → enabled_mask places n ≡ mask_where (λ k. is_some (enabled_address (place_at places k))) n
-unfolding mask_where
+pub enabled-where : (places : List (Option Place)) (n : ℕ) → enabled_mask places n ≡ mask_where (λ k. is_some (enabled_address (place_at places k))) n
 enabled-where places zero = refl
 enabled-where places (suc n) = ap (λ m. cond (is_some (enabled_address (place_at places n))) (mask_with m n) m) (enabled-where places n)
 

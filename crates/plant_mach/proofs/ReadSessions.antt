@@ -1,37 +1,31 @@
 -- Entries of sessions: their openings, lines and closings, and the endings.
-use Rattle.std.proofs.Common.{◌≡◌, ℕ, suc, ◌+◌, eqb, ◌==◌, ◌&&◌, Bool, true, false, not, cond, List, [], ◌∷◌, ◌++◌, append_assoc, Option, Some, None, is_some, is_none, refl, sym, ap, subst, ◌∙◌, arith}
+use Rattle.std.proofs.Common.{◌≡◌, ℕ, suc, ◌+◌, eqb, ◌==◌, ◌&&◌, Bool, true, false, not, cond, List, [], ◌∷◌, ◌++◌, append_assoc, Option, Some, None, refl, sym, ap, subst, ◌∙◌, arith}
 use Rattle.std.specs.Option.{unwrap_or}
 use Rattle.std.proofs.lemmas.Bool.{false≢true, eqb-true, eq-eqb}
 use Rattle.mach_base.specs.Machine.{Machine}
-use Rattle.mach_base.specs.Texts.{newline}
-use Rattle.mach_base.specs.Masks.{has_bit}
 use Rattle.mach_base.specs.declared.event.Hart.{Hart}
-use Rattle.mach_base.specs.declared.event.Ending.{Ending}
-use Rattle.mach_base.specs.declared.event.Ending.TheVariants.{ScriptEnd, AllHalted, StepLimit, PlanEnd}
 use Rattle.mach_base.specs.declared.event.Entry.TheVariants as entry
 use Rattle.deck_core.specs.declared.plain.notes.Sitting.{Sitting}
-use Rattle.deck_core.specs.declared.plain.notes.Stage.{Stage}
 use Rattle.deck_core.specs.declared.plain.notes.Stage.TheVariants as stage
 use Rattle.deck_core.specs.contract.Allowed.{is_of, is_lines, is_leaving}
 use Rattle.atom_mach.specs.declared.step.Mode.{Mode}
-use Rattle.atom_mach.specs.declared.step.Mode.TheVariants.{Free, Hold, Leave, Over}
-use Rattle.atom_mach.specs.declared.step.AStep.TheVariants.{Session, Enter, Line, End, Off}
-use Rattle.atom_mach.specs.State.{State, Done, hart_count}
+use Rattle.atom_mach.specs.declared.step.Mode.TheVariants.{Free, Hold, Leave}
+use Rattle.atom_mach.specs.declared.step.AStep.TheVariants.{Enter, Line, End}
+use Rattle.atom_mach.specs.State.{State}
 use Rattle.atom_mach.specs.Modes.{after_go}
-use Rattle.atom_mach.specs.Session.{Cut, before_cut, is_hart, opening_reason, session_opening, prompt_text, with_read, line_effect, cut_session}
-use Rattle.atom_mach.specs.Step.{does, can_be_late, held_for, is_true_ending}
-use Rattle.atom_mach.specs.Run.{CutAt, run_of}
-use Rattle.atom_mach.proofs.Booleans.{cond_true, and_true, not_is, is_none-None}
-use Rattle.atom_mach.proofs.Runs.{run_of-snoc}
-use Rattle.atom_mach.proofs.Cuts.{cuts_begin, cuts_grow, cuts_end}
-use Rattle.plant_mach.specs.Machine.{PlantedMachine, mode_at, mode_in_session, mode_shown, planted_of, enabled_of}
-use Rattle.plant_mach.specs.Entries.{can_sit, opened_for, reason_now, has_line, stage_after, line_made, read_in, last_words, may, effect}
-use Rattle.plant_mach.specs.Reading.{Reading, settled, with_opening, with_line_in, with_closing, with_script_end, with_entry, IsReading}
-use Rattle.plant_mach.proofs.Sessions.{IsOpen, in_session-open, is_lines-Lines, is_leaving-Leaving}
+use Rattle.atom_mach.specs.Session.{Cut, before_cut, is_hart, opening_reason, session_opening, with_read, line_effect, cut_session}
+use Rattle.atom_mach.specs.Step.{does, can_be_late, held_for}
+use Rattle.atom_mach.specs.Run.{CutAt}
+use Rattle.atom_mach.proofs.Booleans.{cond_true, and_true}
+use Rattle.atom_mach.proofs.Cuts.{cuts_begin, cuts_grow}
+use Rattle.plant_mach.specs.Machine.{PlantedMachine, mode_at, mode_in_session, mode_shown, planted_of}
+use Rattle.plant_mach.specs.Entries.{can_sit, opened_for, has_line, stage_after, line_made, read_in, may, effect}
+use Rattle.plant_mach.specs.Reading.{Reading, settled, with_opening, with_line_in, with_closing, with_entry}
+use Rattle.plant_mach.proofs.Sessions.{in_session-open, is_lines-Lines, is_leaving-Leaving}
 use Rattle.plant_mach.proofs.Settled.{RunsTo, done_as, one_more, settle}
 use Rattle.plant_mach.proofs.Shown.{shown-session}
 use Rattle.plant_mach.proofs.Opens.{IsOpened, open-opened, left-shown}
-use Rattle.plant_mach.proofs.Agreeing.{Agrees, made_as, LateFits, CutFits, append-nothing, settled-is, agrees-run, agrees-settled, agrees-step}
+use Rattle.plant_mach.proofs.Agreeing.{Agrees, made_as, LateFits, append-nothing, settled-is, agrees-run}
 
 both : (a b : Bool) → a ≡ true → b ≡ true → (a && b) ≡ true
 both a b p q = rw (p, q) refl
@@ -66,7 +60,7 @@ module _ (start : State) (r : Reading) (text : List ℕ) (p : PlantedMachine) (m
       let opens : opening_reason x.mode p.machine m.0 0 ≡ Some x.why = ap (λ l. opening_reason x.mode p.machine m.0 l) (sym zero) ∙ x.opens in
       let there = (and_true (is_hart p.machine m.0) _ x.sits).0 in
       let cut : cut_session (record { machine = p.machine; mode = x.mode }) m 0 ≡ Some opening =
-          cuts_begin (record { machine = p.machine; mode = x.mode }) m x.why there opens ∙ ap (λ l. Some (session_opening p.machine m l x.why)) (sym zero) in
+      cuts_begin (record { machine = p.machine; mode = x.mode }) m x.why there opens ∙ ap (λ l. Some (session_opening p.machine m l x.why)) (sym zero) in
       let shown : None ≡ mode_shown opened = sym (shown-session opened ending ∙ ap (λ b. cond b None (Some (Hold m late))) none) in
       record {
         reading = record { last = done_as text p.machine x.mode; run = run; stands = (opening, cut, refl, refl, shown) };
@@ -80,8 +74,8 @@ module _ (start : State) (r : Reading) (text : List ℕ) (p : PlantedMachine) (m
   joined some =
       let done = entered (record { machine = p.machine; mode = x.mode }) m late x.why (late-sits (record { machine = p.machine; mode = x.mode }) m late x.sits some) x.opens in
       agrees-run start ((settled r).steps ++ (Enter m late ∷ [])) true (text ++ opening.text) opened opening.machine (Hold m late)
-          (one_more start (settled r).steps text opening.text p.machine opening.machine x.mode (Hold m late) (Enter m late) run done)
-          refl (shown-session opened ending ∙ ap (λ b. cond b None (Some (Hold m late))) some) (sym (ap not some))
+      (one_more start (settled r).steps text opening.text p.machine opening.machine x.mode (Hold m late) (Enter m late) run done)
+      refl (shown-session opened ending ∙ ap (λ b. cond b None (Some (Hold m late))) some) (sym (ap not some))
 
   either_opened : (b : Bool) → eqb late 0 ≡ b →
       Agrees start (cond b (record { steps = (settled r).steps; cut = Some (record { master = m; lines = 0 }); late = false }) (record { steps = (settled r).steps ++ (Enter m late ∷ []); cut = None; late = true })) (made_as (text ++ opening.text) opened)
@@ -138,8 +132,8 @@ line-read start steps None flag text p s line rest a ending is lines unread = by
         let mode = unwrap_or c.left (Hold s.master s.late) in
         let done = line-done (record { machine = p.machine; mode = Hold s.master s.late }) s.master s.late line rest refl unread in
         agrees-run start (steps ++ (Line ∷ [])) flag (text ++ c.text) next c.machine mode
-            (one_more start steps text c.text p.machine c.machine (Hold s.master s.late) mode Line run done)
-            refl (shown-session next ending ∙ held_left s.master s.late line (with_read p.machine rest) c.left refl held) (subst (λ session. LateFits session flag) is a.late)
+        (one_more start steps text c.text p.machine c.machine (Hold s.master s.late) mode Line run done)
+        refl (shown-session next ending ∙ held_left s.master s.late line (with_read p.machine rest) c.left refl held) (subst (λ session. LateFits session flag) is a.late)
 line-read start steps (Some at) flag text p s line rest a ending is lines unread =
     let (c0, cut, whole, machine, left) = a.reading.stands in
     let (t, seated, master, none) = a.cut in
@@ -196,7 +190,7 @@ reads-Close start r text p h a ending e =
     let shown : mode_shown p ≡ Some (after_go s.master s.late) = shown-session p ending ∙ ap mode_in_session found.is ∙ ap (mode_at s.master s.late) leaving in
     let run = settle start r (made_as text p) (after_go s.master s.late) a.reading shown in
     subst (λ (x : Reading). Agrees start (with_closing x) (made_as (text ++ []) next)) (sym (settled-is r))
-        (by_late s run (eqb s.late 0) refl r.late (subst (λ session. LateFits session r.late) found.is a.late))
+    (by_late s run (eqb s.late 0) refl r.late (subst (λ session. LateFits session r.late) found.is a.late))
   where
     next : PlantedMachine
     next = record p { session = None }
@@ -205,9 +199,9 @@ reads-Close start r text p h a ending e =
     by_late s done true is true fits = absurd (false≢true (sym (fits ∙ ap not is)))
     by_late s done true is false fits =
         subst (λ (t : List ℕ). Agrees start (record { steps = (settled r).steps; cut = None; late = false }) (made_as t next)) (sym (append-nothing text))
-            (agrees-run start (settled r).steps false text next p.machine Free (subst (λ b. RunsTo start (settled r).steps text p.machine (cond b Free (Leave s.master s.late))) is done) refl (shown-session next ending) refl)
+        (agrees-run start (settled r).steps false text next p.machine Free (subst (λ b. RunsTo start (settled r).steps text p.machine (cond b Free (Leave s.master s.late))) is done) refl (shown-session next ending) refl)
     by_late s done false is true fits =
         agrees-run start ((settled r).steps ++ (End ∷ [])) false (text ++ []) next p.machine Free
-            (one_more start (settled r).steps text [] p.machine p.machine (Leave s.master s.late) Free End (subst (λ b. RunsTo start (settled r).steps text p.machine (cond b Free (Leave s.master s.late))) is done) (closed-done (record { machine = p.machine; mode = Leave s.master s.late }) s.master s.late refl))
-            refl (shown-session next ending) refl
+        (one_more start (settled r).steps text [] p.machine p.machine (Leave s.master s.late) Free End (subst (λ b. RunsTo start (settled r).steps text p.machine (cond b Free (Leave s.master s.late))) is done) (closed-done (record { machine = p.machine; mode = Leave s.master s.late }) s.master s.late refl))
+        refl (shown-session next ending) refl
     by_late s done false is false fits = absurd (false≢true (fits ∙ ap not is))

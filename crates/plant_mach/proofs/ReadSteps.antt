@@ -1,5 +1,5 @@
 -- Entries that end the session's lines: instructions, interrupts, calls, and what is planted and pulled.
-use Rattle.std.proofs.Common.{◌≡◌, ℕ, ◌==◌, ◌&&◌, Bool, true, false, not, cond, List, [], ◌++◌, Option, Some, None, is_some, is_none, option_map, refl, sym, ap, subst, ◌∙◌}
+use Rattle.std.proofs.Common.{◌≡◌, ℕ, ◌&&◌, Bool, true, not, List, [], ◌++◌, Option, Some, None, is_some, is_none, option_map, refl, sym, ap, subst, ◌∙◌}
 use Rattle.std.proofs.lemmas.Bool.{false≢true}
 use Rattle.mach_base.specs.declared.event.Hart.{Hart}
 use Rattle.mach_base.specs.declared.event.Entry.TheVariants as entry
@@ -11,7 +11,7 @@ use Rattle.bus_plant.specs.Laws.{RawFetches}
 use Rattle.atom_mach.specs.declared.step.Mode.{Mode}
 use Rattle.atom_mach.specs.declared.step.Mode.TheVariants.{Free, Pass, Back}
 use Rattle.atom_mach.specs.declared.step.AStep.TheVariants.{Instr, Intr}
-use Rattle.atom_mach.specs.State.{State, context_at}
+use Rattle.atom_mach.specs.State.{State}
 use Rattle.atom_mach.specs.Traps.{executed, console_text, interrupted}
 use Rattle.atom_mach.specs.Modes.{mode_after, after_go}
 use Rattle.atom_mach.specs.Session.{is_hart}
@@ -19,10 +19,10 @@ use Rattle.atom_mach.specs.Run.{CutAt}
 use Rattle.atom_mach.specs.State.{Done}
 use Rattle.atom_mach.proofs.Booleans.{and_true, not_is, is_none-None}
 use Rattle.plant_mach.specs.Machine.{PlantedMachine, is_held, mode_at, mode_in_session, mode_shown}
-use Rattle.plant_mach.specs.Entries.{Made, after_step, is_called, step_address, may_pull_step, may, effect}
-use Rattle.plant_mach.specs.Reading.{Reading, with_entry, Stands, IsReading}
+use Rattle.plant_mach.specs.Entries.{after_step, is_called, step_address, may_pull_step, may, effect}
+use Rattle.plant_mach.specs.Reading.{Reading, with_entry, Stands}
 use Rattle.plant_mach.specs.Order.{IsOrderly, StepFits, StepFitsStage}
-use Rattle.plant_mach.proofs.Sessions.{IsOpen, in_session-open, is_pass-Pass, is_leaving-Leaving}
+use Rattle.plant_mach.proofs.Sessions.{in_session-open, is_pass-Pass, is_leaving-Leaving}
 use Rattle.plant_mach.proofs.Settled.{settle, one_more}
 use Rattle.plant_mach.proofs.Shown.{shown-session, shown-after_step, not_held-shown}
 use Rattle.plant_mach.proofs.Executes.{step-executed, intr-interrupted}
@@ -35,8 +35,8 @@ reads-Step raw start r text p h ordered a ending e =
     let next = record p { machine = executed p.machine h.0; session = option_map (after_step h.0) p.session } in
     let run = settle start r (made_as text p) x.mode a.reading (shown-session p ending ∙ x.shown) in
     agrees-step start r (Instr h) (text ++ console_text p.machine h.0) next (executed p.machine h.0) (mode_after x.mode h.0)
-        (one_more start _ text (console_text p.machine h.0) p.machine (executed p.machine h.0) x.mode (mode_after x.mode h.0) (Instr h) run x.done)
-        refl (shown-session next ending ∙ shown-after_step h.0 p.session x.mode x.shown) (late-after_step h.0 p.session r.late a.late)
+    (one_more start _ text (console_text p.machine h.0) p.machine (executed p.machine h.0) x.mode (mode_after x.mode h.0) (Instr h) run x.done)
+    refl (shown-session next ending ∙ shown-after_step h.0 p.session x.mode x.shown) (late-after_step h.0 p.session r.late a.late)
 
 pub reads-Intr : (start : State) (r : Reading) (text : List ℕ) (p : PlantedMachine) (h : Hart) → Agrees start r (made_as text p) → p.ending ≡ None → may p (entry.Intr h) ≡ true → Agrees start (with_entry r (entry.Intr h)) (made_as (text ++ (effect p (entry.Intr h)).text) (effect p (entry.Intr h)).next)
 unfolding effect
@@ -46,8 +46,8 @@ reads-Intr start r text p h a ending e =
     let shown = shown-session p ending ∙ x.shown in
     let run = settle start r (made_as text p) x.mode a.reading shown in
     agrees-step start r (Intr h) (text ++ []) next (interrupted p.machine h.0) x.mode
-        (one_more start _ text [] p.machine (interrupted p.machine h.0) x.mode x.mode (Intr h) run x.done)
-        refl shown a.late
+    (one_more start _ text [] p.machine (interrupted p.machine h.0) x.mode x.mode (Intr h) run x.done)
+    refl shown a.late
 
 -- Calls.
 

@@ -1,12 +1,10 @@
 -- A reading whose session is no more than lines, as a run; and how runs grow.
-use Rattle.std.proofs.Common.{◌≡◌, ℕ, Bool, true, false, List, [], ◌∷◌, ◌++◌, Option, Some, None, refl, sym, ap, ◌∙◌}
+use Rattle.std.proofs.Common.{◌≡◌, ℕ, Bool, List, [], ◌∷◌, ◌++◌, Option, Some, None, refl, sym, ap, ◌∙◌}
 use Rattle.mach_base.specs.Machine.{Machine}
-use Rattle.mach_base.specs.declared.event.Hart.{Hart}
 use Rattle.atom_mach.specs.declared.step.Mode.{Mode}
 use Rattle.atom_mach.specs.declared.step.AStep.{AStep}
 use Rattle.atom_mach.specs.declared.step.AStep.TheVariants.{Session}
 use Rattle.atom_mach.specs.State.{State, Done}
-use Rattle.atom_mach.specs.Session.{Cut, cut_session}
 use Rattle.atom_mach.specs.Step.{does}
 use Rattle.atom_mach.specs.Run.{CutAt, run_of}
 use Rattle.atom_mach.proofs.Runs.{run_of-snoc}

@@ -1,5 +1,5 @@
 -- The mode that is shown: that there is one, and how it goes on.
-use Rattle.std.proofs.Common.{◌≡◌, ◌≢◌, ℕ, eqb, ◌==◌, Bool, true, false, not, cond, Option, Some, None, option_map, refl, sym, ap, ◌∙◌}
+use Rattle.std.proofs.Common.{◌≡◌, ℕ, eqb, Bool, true, false, not, cond, Option, Some, None, option_map, refl, sym, ap, ◌∙◌}
 use Rattle.std.proofs.lemmas.Bool.{false≢true, eqb-true}
 use Rattle.mach_base.specs.Machine.{Machine}
 use Rattle.mach_base.specs.Masks.{has_bit}
@@ -11,11 +11,10 @@ use Rattle.deck_core.specs.declared.plain.notes.Stage.{Stage}
 use Rattle.deck_core.specs.declared.plain.notes.Stage.TheVariants as stage
 use Rattle.deck_core.specs.contract.Allowed.{in_session, is_of}
 use Rattle.atom_mach.specs.declared.step.Mode.{Mode}
-use Rattle.atom_mach.specs.declared.step.Mode.TheVariants.{Free, Hold, Pass, Back, Leave, Over}
+use Rattle.atom_mach.specs.declared.step.Mode.TheVariants.{Free, Hold, Pass, Back, Leave}
 use Rattle.atom_mach.specs.Modes.{runs, after_go, mode_after}
 use Rattle.atom_mach.specs.Traps.{trap, late_trap}
 use Rattle.atom_mach.specs.Step.{trap_in}
-use Rattle.atom_mach.proofs.Booleans.{not_is}
 use Rattle.plant_mach.specs.Machine.{PlantedMachine, is_held, mode_at, mode_in_session, mode_of, mode_shown}
 use Rattle.plant_mach.specs.Entries.{after_pass, after_step}
 

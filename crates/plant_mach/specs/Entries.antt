@@ -1,8 +1,8 @@
 -- The entries of a journal: where each is legal, what it prints and what it changes.
-use Rattle.std.specs.Prelude.{ℕ, ◌+◌, ◌^◌, ◌==◌, ◌&&◌, ◌||◌, Bool, true, false, not, List, [], ◌∷◌, ◌++◌, slice_index_or, slice_set, Option, Some, None, is_some, is_none, option_map, nat_lt, Result, Ok, Err, if◌then◌else◌}
+use Rattle.std.specs.Prelude.{ℕ, ◌^◌, ◌==◌, ◌&&◌, ◌||◌, Bool, true, false, not, List, [], ◌∷◌, ◌++◌, slice_index_or, slice_set, Option, Some, None, is_some, is_none, option_map, nat_lt, Result, Ok, Err, if◌then◌else◌}
 use Rattle.mach_base.specs.Texts.{newline}
 use Rattle.mach_base.specs.Masks.{has_bit}
-use Rattle.mach_base.specs.Machine.{Context, Machine, is_text_word}
+use Rattle.mach_base.specs.Machine.{Machine, is_text_word}
 use Rattle.mach_base.specs.declared.event.Hart.{Hart}
 use Rattle.mach_base.specs.declared.event.Fault.{Fault}
 use Rattle.mach_base.specs.declared.event.Reason.{Reason}

@@ -1,17 +1,15 @@
 -- Laws of the planted machine.
-use Rattle.std.specs.Prelude.{◌≡◌, ◌≢◌, ◌⊎◌, ℕ, ◌+◌, ◌≤◌, ◌==◌, Bool, true, false, List, [], ◌∷◌, ◌++◌, length, Option, Some, None}
+use Rattle.std.specs.Prelude.{◌≡◌, ℕ, ◌≤◌, ◌==◌, Bool, true, false, List, ◌++◌, Option, Some, None}
 use Rattle.mach_base.specs.Machine.{Symbol}
-use Rattle.mach_base.specs.declared.limits.TheConstants.{PLACES}
-use Rattle.mach_base.specs.declared.event.Hart.{Hart}
 use Rattle.mach_base.specs.declared.event.Ending.{Ending}
 use Rattle.mach_base.specs.declared.event.Ending.TheVariants.{PlanEnd}
 use Rattle.mach_base.specs.declared.event.Entry.{Entry}
-use Rattle.mach_base.specs.declared.event.Entry.TheVariants.{Step, Intr, Send, Take, Open, Pull, Line, Plant, PlantStep, PullStep, Close, Off}
+use Rattle.mach_base.specs.declared.event.Entry.TheVariants.{Step, Intr, Send, Take, Open, Line, Close, Off}
 use Rattle.img_text.specs.Image.{ImageRecord, IsImage}
 use Rattle.hart_ctx.specs.Context.{IsUnmoved}
 use Rattle.atom_mach.specs.State.{hart_count, context_at}
 use Rattle.atom_mach.specs.Limits.{IsKept}
-use Rattle.plant_mach.specs.Machine.{PlantedMachine, planted_start, is_held}
+use Rattle.plant_mach.specs.Machine.{PlantedMachine, planted_start}
 use Rattle.plant_mach.specs.Entries.{Made, makes, then_made, made_by}
 use Rattle.plant_mach.specs.Order.{IsOrderly}
 

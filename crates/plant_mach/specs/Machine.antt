@@ -1,5 +1,5 @@
 -- The planted machine: the machine in which a breakpoint is a word of memory.
-use Rattle.std.specs.Prelude.{ℕ, zero, suc, ◌==◌, Bool, true, false, not, List, length, replicate, slice_index_or, Option, Some, None, is_some, if◌then◌else◌}
+use Rattle.std.specs.Prelude.{ℕ, zero, suc, ◌==◌, Bool, false, not, List, replicate, slice_index_or, Option, Some, None, is_some, if◌then◌else◌}
 use Rattle.mach_base.specs.Machine.{Place, Symbol, Machine}
 use Rattle.mach_base.specs.Masks.{has_bit, mask_with, all_but}
 use Rattle.mach_base.specs.declared.limits.TheConstants.{PLACES}
@@ -57,6 +57,11 @@ enabled_address (Some place) = if place.enabled then Some place.addr else None
 -- the address at which the place is enabled, if it is
 abbrev pub enabled_at : PlantedMachine → ℕ → Option ℕ
 enabled_at p i = enabled_address (place_at p.machine.seen.places i)
+
+-- the mask of the first so many numbers that pass the test
+abbrev pub mask_where : (ℕ → Bool) → ℕ → ℕ
+mask_where test zero = 0
+mask_where test (suc n) = if test n then mask_with (mask_where test n) n else mask_where test n
 
 -- the mask of the first so many places that are enabled
 abbrev pub enabled_mask : List (Option Place) → ℕ → ℕ

@@ -13,7 +13,7 @@ use Rattle.atom_mach.specs.State.{State, Done, start_state}
 use Rattle.atom_mach.specs.Session.{Cut, cut_session}
 use Rattle.atom_mach.specs.Run.{CutAt, run_of, transcript}
 use Rattle.atom_mach.specs.Texts.{ending_line}
-use Rattle.plant_mach.specs.Machine.{PlantedMachine, planted_start, mode_shown}
+use Rattle.plant_mach.specs.Machine.{planted_start, mode_shown}
 use Rattle.plant_mach.specs.Entries.{Made, made_by}
 
 -- What was read so far: the steps; the session with no late harts that was opened and of which only lines were read since,
