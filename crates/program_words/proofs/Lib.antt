@@ -1,0 +1,5 @@
+mod Rules
+mod Uses
+mod Looks
+mod Turns
+mod Options
