@@ -3,3 +3,4 @@ mod Uses
 mod Looks
 mod Turns
 mod Options
+mod Agrees

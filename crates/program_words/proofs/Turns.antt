@@ -61,6 +61,10 @@ pub outcome-turn : (s : Shape) (w : Walk) (word : Text) (words : List Text)
 unfolding walk_fault
 outcome-turn s w word words = unless-or_else (turn_fault s [] w word) (walk_fault s [] (walked s.rules [] w word) words) _
 
+pub outcome-end : (s : Shape) (w : Walk) → outcome s w [] ≡ ended s w.held
+unfolding walk_fault
+outcome-end s w = refl
+
 -- ---- the end
 
 and_false : (b : Bool) → (b && false) ≡ false
@@ -179,7 +183,7 @@ placed_walk trailing rs p word k = record {
   stopped = None;
 }
 
-no_place : (row : Row) (trailing : Bool) (given : List Argument) (p : Pending) (k : ℕ) (word : Text) (words : List Text)
+pub no_place : (row : Row) (trailing : Bool) (given : List Argument) (p : Pending) (k : ℕ) (word : Text) (words : List Text)
     → IsTaken row trailing word (held given p) (k + 1) → slice_get row.operands k ≡ None
     → outcome (row_shape row) (at trailing given p k) (word ∷ words) ≡ None
 no_place row trailing given p k word words taken none =
