@@ -4,3 +4,4 @@ mod Looks
 mod Turns
 mod Options
 mod Agrees
+mod Top

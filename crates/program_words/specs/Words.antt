@@ -142,7 +142,7 @@ abbrev pub argument : Text → List Argument → Option Text
 argument name given = option_map (λ a. a.1) (find (λ a. bytes_eq a.0 name) given)
 
 -- The row and the arguments of the words, which are the command's word and then words that are right for it.
-abbrev pub request_of : List Row → List Text → Option (Row × List Argument)
-request_of rows [] = None
-request_of rows (word ∷ words) =
-    option_and_then (λ row. option_map (λ given. (row, given)) (arguments_of row words)) (find (λ r. bytes_eq r.word word) rows)
+abbrev pub row_and_arguments : List Row → List Text → Option (Row × List Argument)
+row_and_arguments table [] = None
+row_and_arguments table (word ∷ words) =
+    option_and_then (λ row. option_map (λ given. (row, given)) (arguments_of row words)) (find (λ r. bytes_eq r.word word) table)
