@@ -1,7 +1,9 @@
-mod Rules
+mod RowRules
 mod Uses
 mod Looks
 mod Turns
-mod Options
+mod Turning
 mod Agrees
 mod Top
+mod Added
+mod Numbers

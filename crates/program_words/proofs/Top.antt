@@ -13,7 +13,7 @@ use Rattle.clap.specs.declared.error.kind.ErrorKind.{ErrorKind}
 use Rattle.clap.proofs.WalkLemmas.{walk_stopped}
 use Rattle.clap.proofs.FaultLemmas.{stopped_fault}
 use Rattle.program_words.specs.Words.{Text, Kind, plain, dashes, named, unknown, Row, Argument, arguments, arguments_of, items, kind, row_and_arguments}
-use Rattle.program_words.proofs.Rules.{bytes_eq-same, or_false, row_rules}
+use Rattle.program_words.proofs.RowRules.{bytes_eq-same, or_false, row_rules}
 use Rattle.program_words.proofs.Uses.{rows}
 use Rattle.program_words.proofs.Looks.{HasLetter, IsNamed, IsPlain, IsShort, Looks, has_letter, looks, two_dashes}
 use Rattle.program_words.proofs.Turns.{IsSound, at, ended, expected, outcome, row_shape, unless, unless-or_else}

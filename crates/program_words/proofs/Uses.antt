@@ -19,7 +19,7 @@ use Rattle.clap.specs.declared.error.kind.ErrorKind.{ErrorKind}
 use Rattle.clap.specs.declared.error.kind.ErrorKind.TheVariants as kinds
 use Rattle.clap.specs.declared.parser.matches.ValueSource.TheVariants.{CommandLine}
 use Rattle.program_words.specs.Words.{Text, Value, any_word, number, Parameter, Argument, fits, is_given, is_number_in, with_argument}
-use Rattle.program_words.proofs.Rules.{parser, placed, optional}
+use Rattle.program_words.proofs.RowRules.{parser, placed, optional}
 
 -- ---- the rows of arguments
 
