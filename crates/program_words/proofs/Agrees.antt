@@ -11,7 +11,8 @@ use Rattle.clap.specs.Faults.{settle_fault, turn_fault, use_fault, word_fault}
 use Rattle.clap.specs.declared.error.kind.ErrorKind.{ErrorKind}
 use Rattle.program_words.specs.Words.{Text, Kind, plain, dashes, named, unknown, Parameter, Row, Item, operand, option, Argument, and_then_items, arguments, items, items_from, kind, valued, with_argument}
 use Rattle.program_words.proofs.RowRules.{by_name, by_place, bytes_eq-same, optional, placed, row_rules}
-use Rattle.program_words.proofs.Uses.{AreKnown, IsKnown, IsOf, Pending, held, rows, with_pending}
+use Rattle.program_words.specs.Parser.{rows}
+use Rattle.program_words.proofs.Uses.{AreKnown, IsKnown, IsOf, Pending, held, with_pending}
 use Rattle.program_words.proofs.Looks.{IsNamed, IsPlain, IsShort, Looks, looks, two_dashes}
 use Rattle.program_words.proofs.Turns.{IsSound, IsTaken, at, ended, ended_is, expected, expected_after, no_place, operand_turn, outcome, outcome-end, outcome-turn, row_shape, taken_plain, taken_trailing, unless, unless-or_else}
 use Rattle.program_words.proofs.Turning.{at_option, dashes_turn, held_option, letters_turn, name_turn, no_option, option_named, value_turn}

@@ -18,8 +18,8 @@ module _ (k most : ℕ) (most_is : most + 1 ≡ 2 ^ k) (small : most < 2 ^ 64) w
   out_of_range t e h =
       true≢false (sym (Accepts-accepts false (vp.Unsigned 0 most) t h) ∙ accepts_as (number 0 most) t (lt-ltb most (2 ^ 64) small) ∙ e)
 
-  parsed : {E : Type 0} (t : Text) (v : ℕ) → ParsesUnsigned {E} k 10 t (Ok v) → Some v ≡ number_to most t
-  parsed t v h = go (is_number_in 0 most t) refl
+  parsed : (E : Type 0) (t : Text) (v : ℕ) → ParsesUnsigned {E = E} k 10 t (Ok v) → Some v ≡ number_to most t
+  parsed E t v h = go (is_number_in 0 most t) refl
     where
       go : (b : Bool) → is_number_in 0 most t ≡ b → Some v ≡ cond b (Some (digits_value 10 (without_leading_plus t))) None
       go true e = ap (λ (n : ℕ). Some n) h.1
@@ -39,8 +39,8 @@ module _ (k most : ℕ) (most_is : most + 1 ≡ 2 ^ k) (small : most < 2 ^ 64) w
       → (text : Option Text) (result : Option ℕ) → (text ≡ None → result ≡ None) → ((t : Text) → text ≡ Some t → ReadsOne gives t result)
       → result ≡ option_and_then (number_to most) text
   number_read gives parses None result none some = none refl
-  number_read {E} gives parses (Some t) result none some = go result (some t refl)
+  number_read {E = E} gives parses (Some t) result none some = go result (some t refl)
     where
       go : (o : Option ℕ) → ReadsOne gives t o → o ≡ number_to most t
-      go (Some v) h = parsed {E} t v (parses t (Ok v) h)
+      go (Some v) h = parsed E t v (parses t (Ok v) h)
       go None h = refused t h.0 (parses t (Err h.0) h.1)

@@ -14,7 +14,7 @@ use Rattle.clap.proofs.WalkLemmas.{walk_stopped}
 use Rattle.clap.proofs.FaultLemmas.{stopped_fault}
 use Rattle.program_words.specs.Words.{Text, Kind, plain, dashes, named, unknown, Row, Argument, arguments, arguments_of, items, kind, row_and_arguments}
 use Rattle.program_words.proofs.RowRules.{bytes_eq-same, or_false, row_rules}
-use Rattle.program_words.proofs.Uses.{rows}
+use Rattle.program_words.specs.Parser.{rows, rows_of_words}
 use Rattle.program_words.proofs.Looks.{HasLetter, IsNamed, IsPlain, IsShort, Looks, has_letter, looks, two_dashes}
 use Rattle.program_words.proofs.Turns.{IsSound, at, ended, expected, outcome, row_shape, unless, unless-or_else}
 use Rattle.program_words.proofs.Agrees.{AreTexts, agrees}
@@ -85,10 +85,6 @@ program_outcome table words =
     unless (built_fault (program_of table) nothing_held words)
     (entered (program_of table) (fold (walked [] (names table)) (walk_from nothing_held) words).stopped)
 
--- what it is to give
-abbrev pub with_rows : Row × List Argument → Text × List Found
-with_rows r = (r.0.word, rows r.1)
-
 after_turn : (table : List Row) (word : Text) (words : List Text)
     → program_outcome table (word ∷ words)
     ≡ parsed table (or_else (turn_fault program_shape (names table) (walk_from nothing_held) word) (walk_fault program_shape (names table) (walked [] (names table) (walk_from nothing_held) word) words))
@@ -118,12 +114,12 @@ named_rows word [] rs = refl
 named_rows word (k ∷ ks) rs = refl
 
 arguments_rows : (row : Row) (given : Option (List Argument))
-    → option_map (λ (x : List Found). (row.word, x)) (option_map rows given) ≡ option_map with_rows (option_map (λ (g : List Argument). (row, g)) given)
+    → option_map (λ (x : List Found). (row.word, x)) (option_map rows given) ≡ option_map rows_of_words (option_map (λ (g : List Argument). (row, g)) given)
 arguments_rows row None = refl
 arguments_rows row (Some g) = refl
 
 entered_command : (table : List Row) (row : Row) (words : List Text) → find (λ r. bytes_eq r.word row.word) table ≡ Some row → IsSound row → AreTexts words
-    → parsed table [] (entering row.word words) ≡ option_map with_rows (option_map (λ (g : List Argument). (row, g)) (arguments_of row words))
+    → parsed table [] (entering row.word words) ≡ option_map rows_of_words (option_map (λ (g : List Argument). (row, g)) (arguments_of row words))
 unfolding defaults_fault
 entered_command table row words found sound texts =
     let sub : find (λ s. answers_to row.word (label_of s)) (map row_shape table) ≡ Some (row_shape row) = shapes_found table row.word ∙ ap (option_map row_shape) found in
@@ -134,7 +130,7 @@ entered_command table row words found sound texts =
 
 -- the word is a command's
 a_command : (table : List Row) (word : Text) (words : List Text) (row : Row) → find (λ r. bytes_eq r.word word) table ≡ Some row → IsSound row → AreTexts words
-    → program_outcome table (word ∷ words) ≡ option_map with_rows (option_map (λ (g : List Argument). (row, g)) (arguments_of row words))
+    → program_outcome table (word ∷ words) ≡ option_map rows_of_words (option_map (λ (g : List Argument). (row, g)) (arguments_of row words))
 unfolding walked
 a_command table word words row found sound texts =
     let same : row.word ≡ word = (bytes_eq-Decides row.word word).0 (found_passes (λ (r : Row). bytes_eq r.word word) table row found) in
@@ -195,11 +191,11 @@ AreSound table = (word : Text) (row : Row) → find (λ r. bytes_eq r.word word)
 
 -- What a parse of the program's words gives is what the grammar gives.
 pub program_agrees : (table : List Row) (words : List Text) → AreSound table → AreTexts words
-    → program_outcome table words ≡ option_map with_rows (row_and_arguments table words)
+    → program_outcome table words ≡ option_map rows_of_words (row_and_arguments table words)
 program_agrees table [] sound texts = no_words table
 program_agrees table (word ∷ words) sound texts = go (find (λ r. bytes_eq r.word word) table) refl
   where
     go : (o : Option Row) → find (λ r. bytes_eq r.word word) table ≡ o
-        → program_outcome table (word ∷ words) ≡ option_map with_rows (option_and_then (λ row. option_map (λ (g : List Argument). (row, g)) (arguments_of row words)) o)
+        → program_outcome table (word ∷ words) ≡ option_map rows_of_words (option_and_then (λ row. option_map (λ (g : List Argument). (row, g)) (arguments_of row words)) o)
     go None e = no_command table word words (kind word) (looks word) texts.0 e
     go (Some row) e = a_command table word words row e (sound word row e) texts.1

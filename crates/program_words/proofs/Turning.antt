@@ -11,7 +11,8 @@ use Rattle.clap.specs.Faults.{flag_word_fault, flags_fault, settle_fault, turn_f
 use Rattle.clap.specs.declared.error.kind.ErrorKind.{ErrorKind}
 use Rattle.program_words.specs.Words.{Text, Parameter, Row, Argument, with_argument}
 use Rattle.program_words.proofs.RowRules.{by_name, by_place, bytes_eq-same, no_short, optional, placed, row_rules}
-use Rattle.program_words.proofs.Uses.{AreKnown, Fails, Gives, IsKnown, IsOf, Pending, Used, held, rows, settles, use_is, with_pending}
+use Rattle.program_words.specs.Parser.{rows}
+use Rattle.program_words.proofs.Uses.{AreKnown, Fails, Gives, IsKnown, IsOf, Pending, Used, held, settles, use_is, with_pending}
 use Rattle.program_words.proofs.Looks.{HasLetter, IsNamed, IsPlain, IsShort, has_letter, two_dashes}
 use Rattle.program_words.proofs.Turns.{IsSound, at, ended, outcome, outcome-turn, row_shape, unless, unless-or_else}
 

@@ -15,7 +15,8 @@ use Rattle.clap.specs.Faults.{check_fault, default_fault, defaults_fault, settle
 use Rattle.clap.specs.declared.error.kind.ErrorKind.{ErrorKind}
 use Rattle.program_words.specs.Words.{Text, Parameter, Row, Item, operand, Argument, arguments, is_given}
 use Rattle.program_words.proofs.RowRules.{by_place, optional, placed, placed_from, row_rules}
-use Rattle.program_words.proofs.Uses.{AreKnown, Fails, Gives, IsKnown, Pending, Used, held, is_given-rows, rows, settles, with_pending}
+use Rattle.program_words.specs.Parser.{rows}
+use Rattle.program_words.proofs.Uses.{AreKnown, Fails, Gives, IsKnown, Pending, Used, held, is_given-rows, settles, with_pending}
 use Rattle.program_words.proofs.Looks.{IsPlain}
 
 -- what a parse reads of the command of a row, once it is built below the program's

@@ -19,15 +19,10 @@ use Rattle.clap.specs.declared.error.kind.ErrorKind.{ErrorKind}
 use Rattle.clap.specs.declared.error.kind.ErrorKind.TheVariants as kinds
 use Rattle.clap.specs.declared.parser.matches.ValueSource.TheVariants.{CommandLine}
 use Rattle.program_words.specs.Words.{Text, Value, any_word, number, Parameter, Argument, fits, is_given, is_number_in, with_argument}
+use Rattle.program_words.specs.Parser.{row_of, rows}
 use Rattle.program_words.proofs.RowRules.{parser, placed, optional}
 
 -- ---- the rows of arguments
-
-abbrev pub row_of : Argument → Found
-row_of a = record { id = a.0; values = a.1 ∷ []; count = None; source = Some CommandLine; reading = reading.AsWritten }
-
-abbrev pub rows : List Argument → List Found
-rows given = map row_of given
 
 pub has_row-rows : (name : Text) (given : List Argument) → has_row name (rows given) ≡ is_given name given
 has_row-rows name [] = refl

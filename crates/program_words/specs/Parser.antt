@@ -1,6 +1,9 @@
 -- The parser of the words, as clap has it: what stands in it before it is built.
 use Rattle.std.specs.Prelude.{◌≡◌, ℕ, true, false, List, [], ◌∷◌, ◌++◌, map, codes, Some, None, Option}
 use Rattle.std.specs.List.{fold}
+use Rattle.clap.specs.Walk.{Row as Found}
+use Rattle.clap.specs.declared.builder.value_parser.Reading.TheVariants.{AsWritten}
+use Rattle.clap.specs.declared.parser.matches.ValueSource.TheVariants.{CommandLine}
 use Rattle.clap.specs.Words.{App, Rule, Shape, app_of, first_of, found_of, new_app, new_rule, one_of, rows_of, with_rule, with_subcommand}
 use Rattle.clap.specs.Simple.{new_shape}
 use Rattle.clap.specs.declared.builder.action.ArgAction.TheVariants.{Set}
@@ -9,7 +12,7 @@ use Rattle.clap.specs.declared.builder.command.Command.TheViews.{out-Command as 
 use Rattle.clap.specs.declared.builder.value_parser.ValueParser.{ValueParser}
 use Rattle.clap.specs.declared.builder.value_parser.ValueParser.TheVariants as vp
 use Rattle.clap.specs.declared.parser.matches.ArgMatches.{ArgMatches}
-use Rattle.program_words.specs.Words.{Text, Value, any_word, number, Parameter, Row}
+use Rattle.program_words.specs.Words.{Text, Value, any_word, number, Parameter, Argument, Row}
 
 -- the parser of a value; that of any word is the one that an argument has by itself
 abbrev pub parser_of : Value → Option ValueParser
@@ -77,3 +80,14 @@ values_in found name = first_of name (rows_of (found_of found))
 
 abbrev pub numbers_in : ArgMatches → Text → Option Text
 numbers_in found name = one_of name (rows_of (found_of found))
+
+-- what clap finds for an argument that was given
+abbrev pub row_of : Argument → Found
+row_of a = record { id = a.0; values = a.1 ∷ []; count = None; source = Some CommandLine; reading = AsWritten }
+
+abbrev pub rows : List Argument → List Found
+rows given = map row_of given
+
+-- what it finds for a command's word with its arguments
+abbrev pub rows_of_words : Row × List Argument → Text × List Found
+rows_of_words r = (r.0.word, rows r.1)

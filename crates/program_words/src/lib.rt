@@ -13,6 +13,8 @@ mod arguments;
 mod found;
 mod parser;
 mod request;
+mod words;
 
 
 pub use request::{Command, Options, Request, WordsFault};
+pub use words::{command_of, request_of};

@@ -7,7 +7,7 @@ use mach_base::{MOST_HARTS, MOST_ROUNDS, MOST_STEPS};
 use std::alloc::{AllocError, Global};
 
 /// `uni IMAGE SCRIPT`
-fn uni(alloc: Global) -> Result<clap::Command<'static>, AllocError>
+fn uni<'a>(alloc: Global) -> Result<clap::Command<'a>, AllocError>
     ensures { IfOk result (IsRow uni_row) }
 {
     let command = clap::Command::new(alloc, "uni");
@@ -16,7 +16,7 @@ fn uni(alloc: Global) -> Result<clap::Command<'static>, AllocError>
 }
 
 /// `replay IMAGE MAP SCRIPT JOURNAL`
-fn replay(alloc: Global) -> Result<clap::Command<'static>, AllocError>
+fn replay<'a>(alloc: Global) -> Result<clap::Command<'a>, AllocError>
     ensures { IfOk result (IsRow replay_row) }
 {
     let command = clap::Command::new(alloc, "replay");
@@ -27,7 +27,7 @@ fn replay(alloc: Global) -> Result<clap::Command<'static>, AllocError>
 }
 
 /// `run IMAGE MAP SCRIPT JOURNAL` with its options.
-fn run(alloc: Global) -> Result<clap::Command<'static>, AllocError>
+fn run<'a>(alloc: Global) -> Result<clap::Command<'a>, AllocError>
     ensures { IfOk result (IsRow run_row) }
 {
     let command = clap::Command::new(alloc, "run");
@@ -39,7 +39,7 @@ fn run(alloc: Global) -> Result<clap::Command<'static>, AllocError>
 }
 
 /// `lockstep IMAGE MAP SCRIPT PLAN JOURNAL` with its options.
-fn lockstep(alloc: Global) -> Result<clap::Command<'static>, AllocError>
+fn lockstep<'a>(alloc: Global) -> Result<clap::Command<'a>, AllocError>
     ensures { IfOk result (IsRow lockstep_row) }
 {
     let command = clap::Command::new(alloc, "lockstep");
@@ -52,7 +52,7 @@ fn lockstep(alloc: Global) -> Result<clap::Command<'static>, AllocError>
 }
 
 /// `load NUMBER`
-fn load(alloc: Global) -> Result<clap::Command<'static>, AllocError>
+fn load<'a>(alloc: Global) -> Result<clap::Command<'a>, AllocError>
     ensures { IfOk result (IsRow load_row) }
 {
     let command = clap::Command::new(alloc, "load");
@@ -60,10 +60,10 @@ fn load(alloc: Global) -> Result<clap::Command<'static>, AllocError>
 }
 
 /// The command with the options of a run.
-fn with_run_options(
-    command: clap::Command<'static>,
+fn with_run_options<'a>(
+    command: clap::Command<'a>,
     alloc: Global,
-) -> Result<clap::Command<'static>, AllocError>
+) -> Result<clap::Command<'a>, AllocError>
     ensures { IfOk result (HasRules command.entry (map option_rule run_options)) }
 {
     let command = with_option(command, alloc, "harts", 1, MOST_HARTS as u64)?;
@@ -72,7 +72,7 @@ fn with_run_options(
 }
 
 /// The parser of all the words.
-pub(crate) fn program(alloc: Global) -> Result<clap::Command<'static>, AllocError>
+pub(crate) fn program<'a>(alloc: Global) -> Result<clap::Command<'a>, AllocError>
     ensures { IfOk result (λ command. IsParser command (program command_rows)) }
 {
     let program = settings(alloc);
@@ -85,7 +85,7 @@ pub(crate) fn program(alloc: Global) -> Result<clap::Command<'static>, AllocErro
 
 /// The program without its commands: the words come without its name, the first has to be a command, and there is no
 /// help and no version.
-fn settings(alloc: Global) -> clap::Command<'static>
+fn settings<'a>(alloc: Global) -> clap::Command<'a>
     ensures { IsParser result (program_settings) }
 {
     clap::Command::new(alloc, "kdbsim")
@@ -97,10 +97,10 @@ fn settings(alloc: Global) -> clap::Command<'static>
 }
 
 /// The program with one more command.
-fn with_row(
-    program: clap::Command<'static>,
-    command: clap::Command<'static>,
-) -> Result<clap::Command<'static>, AllocError>
+fn with_row<'a>(
+    program: clap::Command<'a>,
+    command: clap::Command<'a>,
+) -> Result<clap::Command<'a>, AllocError>
     ensures { IfOk result (HasCommand program.entry command.entry) }
 {
     program.subcommand(command)
