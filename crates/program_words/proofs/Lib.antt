@@ -7,3 +7,4 @@ mod Agrees
 mod Top
 mod Added
 mod Numbers
+mod Parsed

@@ -1,12 +1,9 @@
-ghost use Rattle.std.specs.Prelude.{◌≡◌, Some, None, map, MatchResult, IfOk, IfErr};
+ghost use Rattle.std.specs.Prelude.{◌≡◌, Some, None, map, IfOk, IfErr};
 ghost use Rattle.std.specs.Option.{option_map};
 ghost use Rattle.std.specs.String.{string_bytes};
-ghost use Rattle.clap.specs.Words.{subcommand_rows_of};
+ghost use Rattle.clap.specs.Words.{kind_of};
 ghost use Rattle.program_words.specs.Commands.{command_of, request_of};
-ghost use Rattle.program_words.specs.Parser.{rows_of_words};
-ghost use Rattle.program_words.specs.Views.{command_view, request_view};
-ghost use Rattle.program_words.specs.Words.{row_and_arguments};
-ghost use Rattle.program_words.specs.Rows.{command_rows};
+ghost use Rattle.program_words.specs.Views.{command_view, request_in, request_view};
 ghost use Rattle.program_words.specs.declared.request.WordsFault.TheVariants.{Usage};
 
 use crate::found::request;
@@ -34,26 +31,37 @@ pub fn request_of(words: &[String], alloc: Global) -> Result<Request<'_>, WordsF
     ensures usage { IfErr result (λ e. e ≡ Usage → request_of (map string_bytes words.now) ≡ None) }
 {
     let found = matches(words, alloc)?;
-    let Some((word, found)) = found.subcommand() else {
-        return Err(WordsFault::Usage);
-    };
-    match request(word, found) {
-        Some(request) => Ok(request),
-        None => Err(WordsFault::Usage),
-    }
+    asked(&found).ok_or(WordsFault::Usage)
+}
+
+/// The request of what clap found.
+fn asked<'a>(found: &ArgMatches<'a>) -> Option<Request<'a>>
+    ensures { option_map request_view result ≡ request_in found.now }
+{
+    let (word, found) = found.subcommand()?;
+    request(word, found)
 }
 
 /// What clap finds in the words.
 fn matches(words: &[String], alloc: Global) -> Result<ArgMatches<'_>, WordsFault>
-    ensures ok { IfOk result (λ m. subcommand_rows_of m ≡ option_map rows_of_words (row_and_arguments command_rows (map string_bytes words.now))) }
-    ensures usage { IfErr result (λ e. e ≡ Usage → row_and_arguments command_rows (map string_bytes words.now) ≡ None) }
+    ensures ok { IfOk result (λ m. request_in m ≡ request_of (map string_bytes words.now)) }
+    ensures usage { IfErr result (λ e. e ≡ Usage → request_of (map string_bytes words.now) ≡ None) }
 {
     let Ok(program) = program(alloc) else {
         return Err(WordsFault::OutOfMemory);
     };
     match program.try_get_matches_from(words) {
         Ok(found) => Ok(found),
-        Err(error) if error.kind() == ErrorKind::OutOfMemory => Err(WordsFault::OutOfMemory),
-        Err(_) => Err(WordsFault::Usage),
+        Err(error) => Err(fault(&error)),
+    }
+}
+
+/// What an error of clap is to the program: want of memory, or a wrong use.
+fn fault(error: &clap::Error) -> WordsFault
+    ensures { result ≡ Usage → ¬ (kind_of error.now ≡ ErrorKind.OutOfMemory) }
+{
+    match error.kind() {
+        ErrorKind::OutOfMemory => WordsFault::OutOfMemory,
+        _ => WordsFault::Usage,
     }
 }
