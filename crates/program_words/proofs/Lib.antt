@@ -8,3 +8,4 @@ mod Top
 mod Added
 mod Numbers
 mod Parsed
+mod WrongUse

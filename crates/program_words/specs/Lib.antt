@@ -3,3 +3,4 @@ pub mod Rows
 pub mod Commands
 pub mod Parser
 pub mod Views
+pub mod Laws

@@ -11,10 +11,14 @@
 
 mod arguments;
 mod found;
+mod laws;
 mod parser;
 mod request;
+#[cfg(test)]
+mod tests;
 mod words;
 
 
+pub use laws::{uni_takes_two_files, wrong_uses};
 pub use request::{Command, Options, Request, WordsFault};
 pub use words::{command_of, request_of};
