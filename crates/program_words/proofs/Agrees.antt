@@ -83,12 +83,12 @@ named_after row given o k word name value words None known is found =
 named_after row given o k word name None words (Some p) known is found =
     let long : arg_by_long (row_rules row) name ≡ Some (optional p) = by_name row.operands row.options 1 name ∙ ap (option_map optional) found in
     let fault : word_fault (row_shape row) [] false (awaiting o.name) word (held_option given o) ≡ ErrorKind.InvalidValue ∷ [] =
-        rw (is.dashes, is.long, long, unsettled (row_rules row) given o known) refl in
+    rw (is.dashes, is.long, long, unsettled (row_rules row) given o known) refl in
     outcome-turn (row_shape row) (at_option given o k) word words ∙ rw fault refl
 named_after row given o k word name (Some value) words (Some p) known is found =
     let long : arg_by_long (row_rules row) name ≡ Some (optional p) = by_name row.operands row.options 1 name ∙ ap (option_map optional) found in
     let fault : word_fault (row_shape row) [] false (awaiting o.name) word (held_option given o) ≡ ErrorKind.InvalidValue ∷ [] =
-        rw (is.dashes, is.long, long, unsettled (row_rules row) given o known) refl in
+    rw (is.dashes, is.long, long, unsettled (row_rules row) given o known) refl in
     outcome-turn (row_shape row) (at_option given o k) word words ∙ rw fault refl
 
 -- ---- one item more

@@ -160,7 +160,7 @@ request_found app words m is matches fault =
     let plain : is_simple_and_free app ≡ true = ap is_simple_and_free is ∙ is_plain in
     let none : fault_of app ws ≡ [] = fault plain in
     let same : subcommand_of app ws ≡ option_map rows_of_words (row_and_arguments command_rows ws) =
-        sym (ap (λ (f : Kinds). unless f (subcommand_of app ws)) none) ∙ outcome_is app ws is (texts words) in
+    sym (ap (λ (f : Kinds). unless f (subcommand_of app ws)) none) ∙ outcome_is app ws is (texts words) in
     ap (option_and_then asked) ((matches (both _ _ plain).0).1 ∙ same) ∙ asked_of (row_and_arguments command_rows ws)
 
 pub no_request : {Z : Type 0} (app : App) (words : List (String Z)) (e : Error) → app ≡ program command_rows
@@ -190,7 +190,7 @@ module _ {Z : Type 0} where
   some_asked (Some b) word rs e f =
       let same_word : word ≡ (out-SubCommand (box_value b)).name.now = cc in
       let same_rows : rs ≡ rows_of (found_of (out-SubCommand (box_value b)).matches) = cc in
-      rw (same_word, same_rows) refl
+      rw (same_word, same_rows) (refl {a = asked ((out-SubCommand (box_value b)).name.now, rows_of (found_of (out-SubCommand (box_value b)).matches))})
 
 pub asked_none : (m : ArgMatches) → None ≡ subcommand_name_of m → None ≡ request_in m
 asked_none m e = none_asked (out-ArgMatches m).subcommand e

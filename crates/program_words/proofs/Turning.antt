@@ -78,9 +78,9 @@ value_turn row given p k o word name value words sound known is some =
         (outcome (row_shape row) (walk_with (used (optional o) (value ∷ []) (rows g)) None idle k) words)
         ≡ option_and_then (λ more. outcome (row_shape row) (at false more None k) words) (with_argument g value (Some o))
     then_used g = elim (use_is o (optional o) value g (inr refl) (sound.option_known name o some).small) [
-          | inl f ↦ rw (f.fault_is, f.none) refl
-          | inr u ↦ rw (u.fault_is, u.some, u.after_is) refl
-        ]
+      | inl f ↦ rw (f.fault_is, f.none) refl
+      | inr u ↦ rw (u.fault_is, u.some, u.after_is) refl
+    ]
 
 -- `--name`
 named_turn : (row : Row) (given : List Argument) (p : Pending) (k : ℕ) (o : Parameter) (word name : Text) (words : List Text)
@@ -127,5 +127,5 @@ pub letters_turn : (row : Row) (w : Walk) (word : Text) (words : List Text) → 
 letters_turn row w word words is text free going fresh met =
     let letter : HasLetter (is.first ∷ is.rest) = has_letter is.first is.rest (rw is.whole at text) in
     let fault : word_fault (row_shape row) [] false w.waiting word w.held ≡ ErrorKind.UnknownArgument ∷ [] =
-        rw (met, is.dashes, is.long, is.short, fresh) (letters_fail row (record w.held { skip = 0 }) is.first is.rest letter) in
+    rw (met, is.dashes, is.long, is.short, fresh) (letters_fail row (record w.held { skip = 0 }) is.first is.rest letter) in
     outcome-turn (row_shape row) w word words ∙ rw (free, going, fault) refl

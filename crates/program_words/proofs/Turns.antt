@@ -149,9 +149,9 @@ ended_given row given k =
 pub ended_is : (row : Row) (given : List Argument) (p : Pending) (k : ℕ) → AreKnown (row_rules row) p
     → ended (row_shape row) (held given p) ≡ expected_after row (with_pending given p) k (Some [])
 ended_is row given p k known = elim (settles (row_rules row) given p known) [
-      | inl f ↦ rw (f.fault_is, f.none) refl
-      | inr g ↦ rw (g.fault_is, g.some, g.after_is) (ended_given row g.given k)
-    ]
+  | inl f ↦ rw (f.fault_is, f.none) refl
+  | inr g ↦ rw (g.fault_is, g.some, g.after_is) (ended_given row g.given k)
+]
 
 -- ---- operands
 

@@ -12,9 +12,7 @@ pub(crate) fn file<'a>(alloc: Global, name: &'a str) -> Arg<'a>
     ensures rule { rule_of result ≡ operand_rule (file name.entry.now) }
     ensures local { result.global ≡ false }
 {
-    Arg::new(alloc, name)
-        .required(true)
-        .action(ArgAction::Set)
+    Arg::new(alloc, name).required(true).action(ArgAction::Set)
 }
 
 /// An operand that is a number within bounds.

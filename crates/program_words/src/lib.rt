@@ -18,7 +18,6 @@ mod request;
 mod tests;
 mod words;
 
-
 pub use laws::{uni_takes_two_files, wrong_uses};
 pub use request::{Command, Options, Request, WordsFault};
 pub use words::{command_of, request_of};

@@ -13,7 +13,10 @@ pub struct Options {
 #[derive(Clone, Copy, Debug)]
 pub enum Command<'a> {
     /// `uni IMAGE SCRIPT`: the image on one hart.
-    Uni { image: &'a str, script: &'a str },
+    Uni {
+        image: &'a str,
+        script: &'a str,
+    },
     /// `replay IMAGE MAP SCRIPT JOURNAL`: the run that the journal tells.
     Replay {
         image: &'a str,
@@ -45,7 +48,9 @@ pub enum Request<'a> {
         options: Options,
     },
     /// `load NUMBER`, from 0 to 4,294,967,295.
-    Load { number: u64 },
+    Load {
+        number: u64,
+    },
 }
 
 /// Why the words give nothing.
