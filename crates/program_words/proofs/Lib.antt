@@ -9,3 +9,4 @@ mod Added
 mod Numbers
 mod Parsed
 mod WrongUse
+mod Bounds

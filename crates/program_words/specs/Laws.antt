@@ -1,10 +1,12 @@
 -- What is a wrong use of the program, and what the command uni takes.
-use Rattle.std.specs.Prelude.{◌≡◌, ℕ, Bool, true, false, List, [], ◌∷◌, codes, find, slice_get, Option, Some, None}
+use Rattle.std.specs.Prelude.{◌≡◌, ◌≤◌, ℕ, Bool, true, false, List, [], ◌∷◌, codes, find, slice_get, Option, Some, None}
 use Rattle.std.specs.List.{list_all}
 use Rattle.std.specs.Str.{bytes_eq}
 use Rattle.program_words.specs.Words.{Text, Kind, plain, dashes, named, unknown, kind, Parameter, Row, Item, operand, option, Argument, arguments, fits, is_given}
 use Rattle.program_words.specs.Rows.{command_rows}
-use Rattle.program_words.specs.Commands.{Command, uni, command_of}
+use Rattle.mach_base.specs.declared.limits.TheConstants.{MOST_HARTS, MOST_ROUNDS, MOST_STEPS}
+use Rattle.program_words.specs.declared.request.Options.{Options}
+use Rattle.program_words.specs.Commands.{Command, uni, command_of, Request, command, run, lockstep, load, request_of}
 
 -- the option of this name
 abbrev option_of : Row → Text → Option Parameter
@@ -49,3 +51,20 @@ uni_of (image ∷ script ∷ more ∷ rest) = None
 -- Where none of the words is a flag, uni takes two files, and nothing else.
 abbrev pub UniTakesTwoFiles : Type 0
 UniTakesTwoFiles = (words : List Text) → list_all is_plain words ≡ true → command_of (codes "uni" ∷ words) ≡ uni_of words
+
+-- the options of a run are within their bounds
+pub record AreWithin (options : Options) : Type 0 where
+  pub harts : (1 ≤ options.harts) × (options.harts ≤ MOST_HARTS)
+  pub steps : (1 ≤ options.steps) × (options.steps ≤ MOST_STEPS)
+  pub rounds : (1 ≤ options.rounds) × (options.rounds ≤ MOST_ROUNDS)
+
+-- the numbers of a request are within their bounds
+abbrev pub IsWithin : Request → Type 0
+IsWithin (command c) = Unit {0}
+IsWithin (run image map script journal options) = AreWithin options
+IsWithin (lockstep image map script plan journal options) = AreWithin options
+IsWithin (load number) = number ≤ 4294967295
+
+-- The numbers of each request are within their bounds, the defaults of options that aren't given too.
+abbrev pub RequestsAreWithin : Type 0
+RequestsAreWithin = (words : List Text) (r : Request) → request_of words ≡ Some r → IsWithin r

@@ -18,6 +18,6 @@ mod request;
 mod tests;
 mod words;
 
-pub use laws::{uni_takes_two_files, wrong_uses};
+pub use laws::{requests_are_within_bounds, uni_takes_two_files, wrong_uses};
 pub use request::{Command, Options, Request, WordsFault};
 pub use words::{command_of, request_of};
