@@ -1,20 +1,18 @@
 -- clap's walk over the words of one command reads just the arguments that the grammar gives them.
-use Rattle.std.proofs.Common.{◌≡◌, ◌∙◌, ◌⊎◌, inl, inr, ◌<◌, ◌≤◌, ◌+◌, ◌&&◌, ◌||◌, ℕ, Bool, cond, true, false, not, zero, suc, refl, sym, ap, ap₂, arith, List, [], ◌∷◌, ◌++◌, map, length, Option, Some, None, is_some, true≢false, nat_eq, nat_lt, nat_le}
-use Rattle.std.specs.List.{All, find}
-use Rattle.std.specs.Option.{option_map, option_map_or}
+use Rattle.std.proofs.Common.{◌≡◌, ◌∙◌, inl, inr, ◌+◌, ◌&&◌, ℕ, Bool, true, false, refl, sym, ap, arith, List, [], ◌∷◌, map, Option, Some, None}
+use Rattle.std.specs.Option.{option_map}
 use Rattle.std.specs.Prelude.{slice_get, option_and_then}
 use Rattle.std.specs.Str.{IsUtf8, bytes_eq}
-use Rattle.clap.specs.Walk.{Held, Row as Found, Rule, Step, Walk, idle, arg_by_id, arg_by_index, arg_by_long, is_pending, settled, used, walked, word_met}
-use Rattle.clap.specs.Walk.{option as awaiting, next as goes_on}
-use Rattle.clap.specs.Kinds.{Kinds, or_else}
+use Rattle.clap.specs.Walk.{Rule, Walk, arg_by_id, arg_by_index, arg_by_long, walked}
+use Rattle.clap.specs.Walk.{option as awaiting}
 use Rattle.clap.specs.Faults.{settle_fault, turn_fault, use_fault, word_fault}
 use Rattle.clap.specs.declared.error.kind.ErrorKind.{ErrorKind}
 use Rattle.program_words.specs.Words.{Text, Kind, plain, dashes, named, unknown, Parameter, Row, Item, operand, option, Argument, and_then_items, arguments, items, items_from, kind, valued, with_argument}
 use Rattle.program_words.proofs.RowRules.{by_name, by_place, bytes_eq-same, optional, placed, row_rules}
 use Rattle.program_words.specs.Parser.{rows}
 use Rattle.program_words.proofs.Uses.{AreKnown, IsKnown, IsOf, Pending, held, with_pending}
-use Rattle.program_words.proofs.Looks.{IsNamed, IsPlain, IsShort, Looks, looks, two_dashes}
-use Rattle.program_words.proofs.Turns.{IsSound, IsTaken, at, ended, ended_is, expected, expected_after, no_place, operand_turn, outcome, outcome-end, outcome-turn, row_shape, taken_plain, taken_trailing, unless, unless-or_else}
+use Rattle.program_words.proofs.Looks.{IsNamed, IsPlain, Looks, looks, two_dashes}
+use Rattle.program_words.proofs.Turns.{IsSound, IsTaken, at, ended, ended_is, expected, expected_after, no_place, operand_turn, outcome, outcome-end, outcome-turn, row_shape, taken_plain, taken_trailing}
 use Rattle.program_words.proofs.Turning.{at_option, dashes_turn, held_option, letters_turn, name_turn, no_option, option_named, value_turn}
 
 -- ---- an option that has no value

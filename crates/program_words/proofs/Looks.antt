@@ -1,12 +1,11 @@
 -- What a word looks like to clap.
-use Rattle.std.proofs.Common.{◌≡◌, ◌∙◌, ◌&&◌, ℕ, Bool, cond, true, false, refl, sym, ap, ap₂, arith, List, [], ◌∷◌, ◌++◌, length, Option, Some, None, true≢false, nat_eq, eqb-true}
-use Rattle.std.specs.List.{list_any, before_first, after_first}
+use Rattle.std.proofs.Common.{◌≡◌, ◌∙◌, ℕ, Bool, cond, true, false, refl, sym, ap, List, [], ◌∷◌, Option, Some, None, nat_eq, eqb-true}
 use Rattle.std.specs.Prelude.{slice_get}
 use Rattle.std.specs.Char.{encode_utf8}
 use Rattle.std.specs.Str.{IsUtf8, bytes_eq, chars, encode_utf8_all}
 use Rattle.std.proofs.lemmas.Str.{encodes-chars}
 use Rattle.clap.specs.Lexer.{long_of, short_of}
-use Rattle.program_words.specs.Words.{Text, Kind, plain, dashes, named, unknown, is_equals, kind, kind_after_dash, kind_after_dashes}
+use Rattle.program_words.specs.Words.{Text, Kind, plain, dashes, named, unknown, kind, kind_after_dash, kind_after_dashes}
 
 abbrev pub two_dashes : Text
 two_dashes = 45 ∷ 45 ∷ []

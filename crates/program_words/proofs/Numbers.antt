@@ -1,9 +1,9 @@
 -- A number that clap reads is that of the grammar.
-use Rattle.std.proofs.Common.{◌≡◌, ◌∙◌, ◌<◌, ◌≤◌, ◌+◌, ◌^◌, ℕ, Bool, cond, true, false, refl, sym, ap, arith, List, Option, Some, None, Result, Ok, Err, true≢false, lt-ltb}
+use Rattle.std.proofs.Common.{◌≡◌, ◌∙◌, ◌<◌, ◌+◌, ◌^◌, ℕ, Bool, cond, true, false, refl, sym, ap, arith, List, Option, Some, None, Result, Ok, Err, true≢false, lt-ltb}
 use Rattle.std.specs.Prelude.{option_and_then}
-use Rattle.std.specs.Str.Parse.{IsNumeral, ParsesUnsigned, digits_value, without_leading_plus}
+use Rattle.std.specs.Str.Parse.{ParsesUnsigned, digits_value, without_leading_plus}
 use Rattle.clap.specs.Matches.{ReadsOne}
-use Rattle.clap.specs.Values.{Accepts, IsUnsignedIn}
+use Rattle.clap.specs.Values.{IsUnsignedIn}
 use Rattle.clap.specs.declared.builder.value_parser.ValueParser.TheVariants as vp
 use Rattle.clap.proofs.ValueTestLemmas.{Accepts-accepts, accepts-Accepts}
 use Rattle.program_words.specs.Words.{Text, number, is_number_in}

@@ -1,19 +1,19 @@
 -- The program's parser is the table's, and its parse is the grammar's.
-use Rattle.std.proofs.Common.{◌≡◌, ◌∙◌, ◌⊎◌, inl, inr, ◌<◌, ◌+◌, ◌&&◌, ℕ, Bool, cond, true, false, zero, suc, refl, sym, ap, arith, List, [], ◌∷◌, map, length, Option, Some, None, Result, Ok, Err, IfOk, true≢false, nat_eq, not, is_some, subst, ◌==◌}
+use Rattle.std.proofs.Common.{◌≡◌, ◌∙◌, inl, inr, ◌<◌, ◌+◌, ◌&&◌, ℕ, Bool, cond, true, false, zero, suc, refl, sym, ap, arith, List, [], ◌∷◌, map, length, Option, Some, None, not, is_some, subst, ◌==◌}
 use Rattle.std.specs.List.{find, list_all}
 use Rattle.std.specs.Option.{option_map, option_map_or}
-use Rattle.std.specs.Prelude.{Box, codes, slice_get, option_and_then}
+use Rattle.std.specs.Prelude.{Box, slice_get, option_and_then}
 use Rattle.std.specs.Box.{box_value}
 use Rattle.std.specs.Str.{bytes_eq}
 use Rattle.std.specs.String.{string_bytes}
 use Rattle.std.specs.declared.string.String.{String}
 use Rattle.std.proofs.lemmas.Str.{IsUtf8-string_bytes}
 use Rattle.clap.specs.Walk.{Row as Found, Rule, first_of, has_long, nothing_held, one_of, row_text, rows_of, stop_after}
-use Rattle.clap.specs.Simple.{App, HasMatchesOf, app_of, built, entered, is_simple, names_of, subcommand_of, subcommand_rows, subcommand_rows_of}
+use Rattle.clap.specs.Simple.{App, HasMatchesOf, built, entered, names_of, subcommand_of, subcommand_rows, subcommand_rows_of}
 use Rattle.clap.specs.Matches.{found_of, subcommand_name_of}
 use Rattle.clap.specs.Values.{kind_of}
-use Rattle.clap.specs.Kinds.{FailsBy, HasKind, IsAmong, Kinds}
-use Rattle.clap.specs.Faults.{built_fault, fault_of, is_free_app, is_simple_and_free}
+use Rattle.clap.specs.Kinds.{HasKind, Kinds}
+use Rattle.clap.specs.Faults.{built_fault, fault_of, is_simple_and_free}
 use Rattle.clap.specs.declared.error.Error.{Error}
 use Rattle.clap.specs.declared.error.kind.ErrorKind.{ErrorKind}
 use Rattle.clap.specs.declared.parser.matches.ArgMatches.{ArgMatches}
@@ -26,10 +26,10 @@ use Rattle.program_words.specs.Commands.{Request, request_from, request_of, requ
 use Rattle.program_words.specs.Parser.{program, row_of, rows, rows_of_words}
 use Rattle.program_words.specs.Views.{request_in}
 use Rattle.program_words.proofs.RowRules.{are_distinct, by_name, by_own_id, by_place, optional, placed, row_rules}
-use Rattle.program_words.proofs.Uses.{IsKnown, is_small}
+use Rattle.program_words.proofs.Uses.{is_small}
 use Rattle.program_words.proofs.Turns.{IsSound, unless}
 use Rattle.program_words.proofs.Agrees.{AreTexts}
-use Rattle.program_words.proofs.Top.{AreSound, found_passes, names, program_agrees, program_of, program_outcome}
+use Rattle.program_words.proofs.Top.{AreSound, program_agrees, program_of}
 
 -- ---- the rows of the table
 

@@ -1,22 +1,22 @@
 -- clap's walk over all the words: the command's word, and then the words of that command.
-use Rattle.std.proofs.Common.{◌≡◌, ◌∙◌, ◌⊎◌, inl, inr, ◌<◌, ◌+◌, ◌&&◌, ◌||◌, ℕ, Bool, cond, true, false, not, zero, suc, refl, sym, ap, ap₂, arith, List, [], ◌∷◌, ◌++◌, map, length, Option, Some, None, is_some, true≢false, nat_eq}
-use Rattle.std.specs.List.{All, find, fold}
-use Rattle.std.specs.Option.{option_map, option_map_or}
-use Rattle.std.specs.Prelude.{codes, slice_get, option_and_then}
+use Rattle.std.proofs.Common.{◌≡◌, ◌∙◌, ◌&&◌, ℕ, Bool, cond, true, false, refl, sym, ap, List, [], ◌∷◌, map, length, Option, Some, None, is_some}
+use Rattle.std.specs.List.{find, fold}
+use Rattle.std.specs.Option.{option_map}
+use Rattle.std.specs.Prelude.{codes, option_and_then}
 use Rattle.std.specs.Str.{IsUtf8, bytes_eq}
 use Rattle.std.proofs.lemmas.Slice.Eq.{bytes_eq-Decides}
-use Rattle.clap.specs.Walk.{Held, Names, Row as Found, Rule, Walk, answers_to, finished, idle, nothing_held, rows_after, settled, subcommand_met, walk_from, walked}
+use Rattle.clap.specs.Walk.{Held, Names, Row as Found, Walk, answers_to, finished, nothing_held, rows_after, settled, walk_from, walked}
 use Rattle.clap.specs.Simple.{App, Shape, entered, label_of, names_of, new_shape}
 use Rattle.clap.specs.Kinds.{Kinds, or_else}
-use Rattle.clap.specs.Faults.{built_fault, check_fault, defaults_fault, entered_fault, flags_fault, level_fault, settle_fault, turn_fault, walk_fault, word_fault}
+use Rattle.clap.specs.Faults.{built_fault, check_fault, defaults_fault, entered_fault, flags_fault, level_fault, settle_fault, turn_fault, walk_fault}
 use Rattle.clap.specs.declared.error.kind.ErrorKind.{ErrorKind}
 use Rattle.clap.proofs.WalkLemmas.{walk_stopped}
 use Rattle.clap.proofs.FaultLemmas.{stopped_fault}
-use Rattle.program_words.specs.Words.{Text, Kind, plain, dashes, named, unknown, Row, Argument, arguments, arguments_of, items, kind, row_and_arguments}
-use Rattle.program_words.proofs.RowRules.{bytes_eq-same, or_false, row_rules}
+use Rattle.program_words.specs.Words.{Text, Kind, plain, dashes, named, unknown, Row, Argument, arguments_of, kind, row_and_arguments}
+use Rattle.program_words.proofs.RowRules.{or_false, row_rules}
 use Rattle.program_words.specs.Parser.{rows, rows_of_words}
-use Rattle.program_words.proofs.Looks.{HasLetter, IsNamed, IsPlain, IsShort, Looks, has_letter, looks, two_dashes}
-use Rattle.program_words.proofs.Turns.{IsSound, at, ended, expected, outcome, row_shape, unless, unless-or_else}
+use Rattle.program_words.proofs.Looks.{HasLetter, Looks, has_letter, looks, two_dashes}
+use Rattle.program_words.proofs.Turns.{IsSound, outcome, row_shape, unless, unless-or_else}
 use Rattle.program_words.proofs.Agrees.{AreTexts, agrees}
 
 -- what a parse reads of the program, once it is built

@@ -1,20 +1,20 @@
 -- clap's walk over the words of one command: options, and the words that it refuses.
-use Rattle.std.proofs.Common.{◌≡◌, ◌∙◌, ◌⊎◌, inl, inr, ◌<◌, ◌≤◌, ◌+◌, ◌&&◌, ◌||◌, ℕ, Bool, cond, true, false, not, zero, suc, refl, sym, ap, ap₂, arith, List, [], ◌∷◌, ◌++◌, map, length, Option, Some, None, is_some, true≢false, nat_eq, nat_lt, nat_le}
+use Rattle.std.proofs.Common.{◌≡◌, ◌∙◌, inl, inr, ◌+◌, ℕ, true, false, refl, ap, List, [], ◌∷◌, length, Option, Some, None}
 use Rattle.std.specs.List.{find}
-use Rattle.std.specs.Option.{option_map, option_map_or}
-use Rattle.std.specs.Prelude.{slice_get, option_and_then}
+use Rattle.std.specs.Option.{option_map}
+use Rattle.std.specs.Prelude.{option_and_then}
 use Rattle.std.specs.Str.{IsUtf8, bytes_eq}
-use Rattle.clap.specs.Walk.{Held, Row as Found, Rule, Walk, idle, arg_by_id, arg_by_index, arg_by_long, arg_by_short, is_pending, Waiting, settled, subcommand_met, used, walked}
+use Rattle.clap.specs.Walk.{Held, Row as Found, Walk, idle, arg_by_long, Waiting, settled, subcommand_met, used, walked}
 use Rattle.clap.specs.Walk.{option as awaiting}
 use Rattle.clap.specs.Kinds.{Kinds, or_else}
-use Rattle.clap.specs.Faults.{flag_word_fault, flags_fault, settle_fault, turn_fault, use_fault, word_fault}
+use Rattle.clap.specs.Faults.{flags_fault, settle_fault, use_fault, word_fault}
 use Rattle.clap.specs.declared.error.kind.ErrorKind.{ErrorKind}
 use Rattle.program_words.specs.Words.{Text, Parameter, Row, Argument, with_argument}
-use Rattle.program_words.proofs.RowRules.{by_name, by_place, bytes_eq-same, no_short, optional, placed, row_rules}
+use Rattle.program_words.proofs.RowRules.{by_name, no_short, optional, row_rules}
 use Rattle.program_words.specs.Parser.{rows}
-use Rattle.program_words.proofs.Uses.{AreKnown, Fails, Gives, IsKnown, IsOf, Pending, Used, held, settles, use_is, with_pending}
-use Rattle.program_words.proofs.Looks.{HasLetter, IsNamed, IsPlain, IsShort, has_letter, two_dashes}
-use Rattle.program_words.proofs.Turns.{IsSound, at, ended, outcome, outcome-turn, row_shape, unless, unless-or_else}
+use Rattle.program_words.proofs.Uses.{AreKnown, Pending, held, settles, use_is, with_pending}
+use Rattle.program_words.proofs.Looks.{HasLetter, IsNamed, IsShort, has_letter, two_dashes}
+use Rattle.program_words.proofs.Turns.{IsSound, at, outcome, outcome-turn, row_shape, unless}
 
 -- the walk where the last word named this option
 abbrev pub held_option : List Argument → Parameter → Held

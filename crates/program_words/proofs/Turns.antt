@@ -1,22 +1,21 @@
 -- clap's walk over the words of one command, turn by turn.
-use Rattle.std.proofs.Common.{◌≡◌, ◌∙◌, ◌⊎◌, inl, inr, ◌<◌, ◌≤◌, ◌+◌, ◌&&◌, ◌||◌, ℕ, Bool, cond, true, false, not, zero, suc, refl, sym, ap, ap₂, arith, List, [], ◌∷◌, ◌++◌, map, length, Option, Some, None, is_some, true≢false, nat_eq, nat_lt, nat_le}
+use Rattle.std.proofs.Common.{◌≡◌, ◌∙◌, inl, inr, ◌<◌, ◌+◌, ◌&&◌, ◌||◌, ℕ, Bool, cond, true, false, not, refl, ap, arith, List, [], ◌∷◌, map, length, Option, Some, None}
 use Rattle.std.specs.List.{find, fold, list_all, list_any}
-use Rattle.std.specs.Option.{option_map, option_map_or}
+use Rattle.std.specs.Option.{option_map}
 use Rattle.std.specs.Prelude.{slice_get, option_and_then, min}
 use Rattle.std.specs.Str.{bytes_eq}
 use Rattle.std.proofs.lemmas.Option.{slice_get_within}
-use Rattle.clap.specs.Lexer.{long_of, short_of, usize_max}
-use Rattle.clap.specs.Walk.{Held, Row as Found, Rule, Step, Waiting, Walk, idle, value, arg_by_index, finished, has_row, settled, takes_several, walked, with_default, word_met, is_pending}
-use Rattle.clap.specs.Walk.{option as awaiting}
+use Rattle.clap.specs.Lexer.{usize_max}
+use Rattle.clap.specs.Walk.{Held, Row as Found, Rule, Walk, idle, value, arg_by_index, finished, has_row, settled, walked, with_default, word_met, is_pending}
 use Rattle.clap.specs.Simple.{Shape, new_shape}
 use Rattle.clap.specs.Takes.{is_given as is_given_in}
 use Rattle.clap.specs.Kinds.{Kinds, or_else}
 use Rattle.clap.specs.Faults.{check_fault, default_fault, defaults_fault, settle_fault, turn_fault, walk_fault, word_fault}
 use Rattle.clap.specs.declared.error.kind.ErrorKind.{ErrorKind}
-use Rattle.program_words.specs.Words.{Text, Parameter, Row, Item, operand, Argument, arguments, is_given}
+use Rattle.program_words.specs.Words.{Text, Parameter, Row, Item, Argument, arguments, is_given}
 use Rattle.program_words.proofs.RowRules.{by_place, optional, placed, placed_from, row_rules}
 use Rattle.program_words.specs.Parser.{rows}
-use Rattle.program_words.proofs.Uses.{AreKnown, Fails, Gives, IsKnown, Pending, Used, held, is_given-rows, settles, with_pending}
+use Rattle.program_words.proofs.Uses.{AreKnown, IsKnown, Pending, held, is_given-rows, settles, with_pending}
 use Rattle.program_words.proofs.Looks.{IsPlain}
 
 -- what a parse reads of the command of a row, once it is built below the program's

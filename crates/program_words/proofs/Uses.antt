@@ -1,6 +1,6 @@
 -- What clap makes of one use of an operand or an option.
-use Rattle.std.proofs.Common.{◌≡◌, ◌∙◌, ◌⊎◌, inl, inr, ◌<◌, ◌≤◌, ◌+◌, ◌^◌, ◌&&◌, ◌||◌, ℕ, Bool, cond, true, false, not, zero, suc, refl, sym, ap, ap₂, arith, List, [], ◌∷◌, ◌++◌, map, length, append-nil, Option, Some, None, true≢false, nat_eq, nat_lt, nat_le, le-leb, lt-ltb, ltb-true, leb-true}
-use Rattle.std.specs.List.{find, list_all, list_any}
+use Rattle.std.proofs.Common.{◌≡◌, ◌∙◌, ◌⊎◌, inl, inr, ◌<◌, ◌≤◌, ◌^◌, ◌&&◌, ◌||◌, ℕ, Bool, cond, true, false, refl, sym, ap, arith, List, [], ◌∷◌, ◌++◌, length, append-nil, Option, Some, None, true≢false, nat_lt, nat_le, lt-ltb, ltb-true, leb-true}
+use Rattle.std.specs.List.{find, list_all}
 use Rattle.std.specs.Option.{option_map, option_map_or}
 use Rattle.std.specs.Char.{digit_value}
 use Rattle.std.specs.Str.{bytes_eq}
@@ -18,7 +18,7 @@ use Rattle.clap.specs.declared.builder.value_parser.Reading.TheVariants as readi
 use Rattle.clap.specs.declared.error.kind.ErrorKind.{ErrorKind}
 use Rattle.clap.specs.declared.error.kind.ErrorKind.TheVariants as kinds
 use Rattle.clap.specs.declared.parser.matches.ValueSource.TheVariants.{CommandLine}
-use Rattle.program_words.specs.Words.{Text, Value, any_word, number, Parameter, Argument, fits, is_given, is_number_in, with_argument}
+use Rattle.program_words.specs.Words.{Text, Value, any_word, number, Parameter, Argument, fits, is_given, with_argument}
 use Rattle.program_words.specs.Parser.{row_of, rows}
 use Rattle.program_words.proofs.RowRules.{parser, placed, optional}
 

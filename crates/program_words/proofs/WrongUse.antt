@@ -1,12 +1,10 @@
 -- The laws of the words.
-use Rattle.std.proofs.Common.{◌≡◌, ◌∙◌, ◌&&◌, ℕ, Bool, true, false, not, refl, ap, List, [], ◌∷◌, map, Option, Some, None, true≢false, codes, option_and_then, option_map}
-use Rattle.std.specs.List.{find, list_all}
-use Rattle.std.specs.Prelude.{slice_get}
-use Rattle.std.specs.Str.{bytes_eq}
+use Rattle.std.proofs.Common.{◌≡◌, ◌∙◌, ◌&&◌, Bool, true, false, not, refl, ap, List, [], ◌∷◌, map, Option, Some, None, option_and_then, option_map}
+use Rattle.std.specs.List.{list_all}
 use Rattle.clap.proofs.WalkLemmas.{both}
-use Rattle.program_words.specs.Words.{Text, Kind, plain, dashes, named, unknown, kind, Parameter, Row, Item, operand, option, Argument, and_then_items, arguments, fits, is_given, items, items_from}
-use Rattle.program_words.specs.Rows.{command_rows, uni_row}
-use Rattle.program_words.specs.Commands.{Command, uni, built, command_of, request_from}
+use Rattle.program_words.specs.Words.{Text, Kind, plain, dashes, named, unknown, kind, Row, Item, operand, Argument, and_then_items, arguments, is_given, items, items_from}
+use Rattle.program_words.specs.Rows.{uni_row}
+use Rattle.program_words.specs.Commands.{built, request_from}
 use Rattle.program_words.specs.Laws.{UniTakesTwoFiles, WrongUses, is_plain, is_plain_kind, uni_of}
 
 and_false : (b : Bool) → (b && false) ≡ false

@@ -2,7 +2,7 @@
 use Rattle.std.specs.Prelude.{◌≡◌, ◌≤◌, ℕ, Bool, true, false, List, [], ◌∷◌, codes, find, slice_get, Option, Some, None}
 use Rattle.std.specs.List.{list_all}
 use Rattle.std.specs.Str.{bytes_eq}
-use Rattle.program_words.specs.Words.{Text, Kind, plain, dashes, named, unknown, kind, Parameter, Row, Item, operand, option, Argument, arguments, fits, is_given}
+use Rattle.program_words.specs.Words.{Text, Kind, plain, kind, Parameter, Row, Item, operand, option, Argument, arguments, fits, is_given}
 use Rattle.program_words.specs.Rows.{command_rows}
 use Rattle.mach_base.specs.declared.limits.TheConstants.{MOST_HARTS, MOST_ROUNDS, MOST_STEPS}
 use Rattle.program_words.specs.declared.request.Options.{Options}

@@ -1,10 +1,10 @@
 -- The parser of the words, as clap has it: what stands in it before it is built.
-use Rattle.std.specs.Prelude.{◌≡◌, ℕ, true, false, List, [], ◌∷◌, ◌++◌, map, codes, Some, None, Option}
+use Rattle.std.specs.Prelude.{◌≡◌, true, false, List, [], ◌∷◌, ◌++◌, map, codes, Some, None, Option}
 use Rattle.std.specs.List.{fold}
 use Rattle.clap.specs.Walk.{Row as Found}
 use Rattle.clap.specs.declared.builder.value_parser.Reading.TheVariants.{AsWritten}
 use Rattle.clap.specs.declared.parser.matches.ValueSource.TheVariants.{CommandLine}
-use Rattle.clap.specs.Words.{App, Rule, Shape, app_of, first_of, found_of, new_app, new_rule, one_of, rows_of, with_rule, with_subcommand}
+use Rattle.clap.specs.Words.{App, Rule, Shape, app_of, first_of, found_of, new_rule, one_of, rows_of, with_rule, with_subcommand}
 use Rattle.clap.specs.Simple.{new_shape}
 use Rattle.clap.specs.declared.builder.action.ArgAction.TheVariants.{Set}
 use Rattle.clap.specs.declared.builder.command.Command.{Command}
