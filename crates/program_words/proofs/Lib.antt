@@ -1,0 +1,12 @@
+mod RowRules
+mod Uses
+mod Looks
+mod Turns
+mod Turning
+mod Agrees
+mod Top
+mod Added
+mod Numbers
+mod Parsed
+mod WrongUse
+mod Bounds

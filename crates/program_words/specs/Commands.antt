@@ -1,0 +1,92 @@
+-- What the words ask for.
+use Rattle.std.specs.Prelude.{ℕ, List, codes, Option, Some, None, option_map, option_and_then, unwrap_or, if◌then◌else◌}
+use Rattle.std.specs.Str.{bytes_eq}
+use Rattle.std.specs.Str.Parse.{digits_value, without_leading_plus}
+use Rattle.program_words.specs.declared.request.Options.{Options}
+use Rattle.program_words.specs.Words.{Text, Row, Argument, argument, is_number_in, row_and_arguments}
+use Rattle.program_words.specs.Rows.{command_rows}
+
+-- a command that is built, with the names of its files
+pub data Command : Type 0 where
+  uni : Text → Text → Command
+  replay : Text → Text → Text → Text → Command
+
+-- what the words ask for: a command that is built, or one that is to come
+pub data Request : Type 0 where
+  command : Command → Request
+  run : Text → Text → Text → Text → Options → Request
+  lockstep : Text → Text → Text → Text → Text → Options → Request
+  load : ℕ → Request
+
+-- the value of each name
+abbrev pub Values : Type 0
+Values = Text → Option Text
+
+-- the number that a word is, up to the most that there is room for
+abbrev pub number_to : ℕ → Text → Option ℕ
+number_to most word = if is_number_in 0 most word then Some (digits_value 10 (without_leading_plus word)) else None
+
+-- the number of a name, and where it isn't given the default
+abbrev pub number_or : Values → Text → ℕ → ℕ → ℕ
+number_or values name most default = unwrap_or (option_and_then (number_to most) (values name)) default
+
+-- the options of a run, each with what it is where it isn't given
+abbrev pub options_of : Values → Options
+options_of values = record {
+  harts = number_or values (codes "harts") 255 1;
+  steps = number_or values (codes "steps") 18446744073709551615 1000000;
+  rounds = number_or values (codes "rounds") 4294967295 1000;
+}
+
+-- with the value of a name
+abbrev pub with_value : Values → Text → (Text → Option Request) → Option Request
+with_value values name make = option_and_then make (values name)
+
+abbrev pub uni_from : Values → Option Request
+uni_from values = with_value values (codes "image") (λ image. with_value values (codes "script") (λ script. Some (command (uni image script))))
+
+abbrev pub replay_from : Values → Option Request
+replay_from values =
+    with_value values (codes "image") (λ image. with_value values (codes "map") (λ map. with_value values (codes "script")
+    (λ script. with_value values (codes "journal") (λ journal. Some (command (replay image map script journal))))))
+
+abbrev pub run_from : Values → Values → Option Request
+run_from values numbers =
+    with_value values (codes "image") (λ image. with_value values (codes "map") (λ map. with_value values (codes "script")
+    (λ script. with_value values (codes "journal") (λ journal. Some (run image map script journal (options_of numbers))))))
+
+abbrev pub lockstep_from : Values → Values → Option Request
+lockstep_from values numbers =
+    with_value values (codes "image") (λ image. with_value values (codes "map") (λ map. with_value values (codes "script")
+    (λ script. with_value values (codes "plan") (λ plan. with_value values (codes "journal")
+    (λ journal. Some (lockstep image map script plan journal (options_of numbers)))))))
+
+abbrev pub load_from : Values → Option Request
+load_from numbers = option_map (λ n. load n) (option_and_then (number_to 18446744073709551615) (numbers (codes "number")))
+
+-- the request of a command's word with these values, and with these for its numbers
+abbrev pub request_with : Text → Values → Values → Option Request
+request_with word values numbers =
+    if bytes_eq word (codes "uni") then uni_from values
+    else if bytes_eq word (codes "replay") then replay_from values
+    else if bytes_eq word (codes "run") then run_from values numbers
+    else if bytes_eq word (codes "lockstep") then lockstep_from values numbers
+    else if bytes_eq word (codes "load") then load_from numbers
+    else None
+
+-- the request of a row with these arguments
+abbrev pub request_from : Row → List Argument → Option Request
+request_from row given = request_with row.word (λ name. argument name given) (λ name. argument name given)
+
+-- What the words ask for, if they are right for a command.
+abbrev pub request_of : List Text → Option Request
+request_of words = option_and_then (λ r. request_from r.0 r.1) (row_and_arguments command_rows words)
+
+-- a request for a command that is built
+abbrev pub built : Request → Option Command
+built (command c) = Some c
+built _ = None
+
+-- The command that the words ask for: where there is none, they are no use of the program.
+abbrev pub command_of : List Text → Option Command
+command_of words = option_and_then built (request_of words)

@@ -1,0 +1,107 @@
+ghost use Rattle.std.specs.Prelude.{◌≡◌, IfOk, map};
+ghost use Rattle.program_words.specs.Parser.{HasCommand, HasRules, IsParser, IsRow, option_rule, program, program_settings};
+ghost use Rattle.program_words.specs.Rows.{command_rows, load_row, lockstep_row, replay_row, run_options, run_row, uni_row};
+
+use crate::arguments::{with_file, with_number, with_option};
+use mach_base::{MOST_HARTS, MOST_ROUNDS, MOST_STEPS};
+use std::alloc::{AllocError, Global};
+
+/// `uni IMAGE SCRIPT`
+fn uni<'a>(alloc: Global) -> Result<clap::Command<'a>, AllocError>
+    ensures { IfOk result (IsRow uni_row) }
+{
+    let command = clap::Command::new(alloc, "uni");
+    let command = with_file(command, alloc, "image")?;
+    with_file(command, alloc, "script")
+}
+
+/// `replay IMAGE MAP SCRIPT JOURNAL`
+fn replay<'a>(alloc: Global) -> Result<clap::Command<'a>, AllocError>
+    ensures { IfOk result (IsRow replay_row) }
+{
+    let command = clap::Command::new(alloc, "replay");
+    let command = with_file(command, alloc, "image")?;
+    let command = with_file(command, alloc, "map")?;
+    let command = with_file(command, alloc, "script")?;
+    with_file(command, alloc, "journal")
+}
+
+/// `run IMAGE MAP SCRIPT JOURNAL` with its options.
+fn run<'a>(alloc: Global) -> Result<clap::Command<'a>, AllocError>
+    ensures { IfOk result (IsRow run_row) }
+{
+    let command = clap::Command::new(alloc, "run");
+    let command = with_file(command, alloc, "image")?;
+    let command = with_file(command, alloc, "map")?;
+    let command = with_file(command, alloc, "script")?;
+    let command = with_file(command, alloc, "journal")?;
+    with_run_options(command, alloc)
+}
+
+/// `lockstep IMAGE MAP SCRIPT PLAN JOURNAL` with its options.
+fn lockstep<'a>(alloc: Global) -> Result<clap::Command<'a>, AllocError>
+    ensures { IfOk result (IsRow lockstep_row) }
+{
+    let command = clap::Command::new(alloc, "lockstep");
+    let command = with_file(command, alloc, "image")?;
+    let command = with_file(command, alloc, "map")?;
+    let command = with_file(command, alloc, "script")?;
+    let command = with_file(command, alloc, "plan")?;
+    let command = with_file(command, alloc, "journal")?;
+    with_run_options(command, alloc)
+}
+
+/// `load NUMBER`
+fn load<'a>(alloc: Global) -> Result<clap::Command<'a>, AllocError>
+    ensures { IfOk result (IsRow load_row) }
+{
+    let command = clap::Command::new(alloc, "load");
+    with_number(command, alloc, "number", 0, u32::MAX as u64)
+}
+
+/// The command with the options of a run.
+fn with_run_options<'a>(
+    command: clap::Command<'a>,
+    alloc: Global,
+) -> Result<clap::Command<'a>, AllocError>
+    ensures { IfOk result (HasRules command.entry (map option_rule run_options)) }
+{
+    let command = with_option(command, alloc, "harts", 1, MOST_HARTS as u64)?;
+    let command = with_option(command, alloc, "steps", 1, MOST_STEPS)?;
+    with_option(command, alloc, "rounds", 1, MOST_ROUNDS as u64)
+}
+
+/// The parser of all the words.
+pub(crate) fn program<'a>(alloc: Global) -> Result<clap::Command<'a>, AllocError>
+    ensures { IfOk result (λ command. IsParser command (program command_rows)) }
+{
+    let program = settings(alloc);
+    let program = with_row(program, uni(alloc)?)?;
+    let program = with_row(program, replay(alloc)?)?;
+    let program = with_row(program, run(alloc)?)?;
+    let program = with_row(program, lockstep(alloc)?)?;
+    with_row(program, load(alloc)?)
+}
+
+/// The program without its commands: the words come without its name, the first has to be a command, and there is no
+/// help and no version.
+fn settings<'a>(alloc: Global) -> clap::Command<'a>
+    ensures { IsParser result (program_settings) }
+{
+    clap::Command::new(alloc, "kdbsim")
+        .no_binary_name(true)
+        .disable_help_flag(true)
+        .disable_help_subcommand(true)
+        .disable_version_flag(true)
+        .subcommand_required(true)
+}
+
+/// The program with one more command.
+fn with_row<'a>(
+    program: clap::Command<'a>,
+    command: clap::Command<'a>,
+) -> Result<clap::Command<'a>, AllocError>
+    ensures { IfOk result (HasCommand program.entry command.entry) }
+{
+    program.subcommand(command)
+}

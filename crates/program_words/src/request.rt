@@ -1,0 +1,63 @@
+/// The options of a run.
+#[derive(Clone, Copy, Debug, PartialEq, Eq)]
+pub struct Options {
+    /// The harts of the machine, from 1 to 16; 1 where the words don't say.
+    pub harts: u8,
+    /// The limit of steps, from 1 to 4,000,000; 1,000,000 where the words don't say.
+    pub steps: u64,
+    /// The rounds in which a master looks for the others, from 1 to 100,000; 1,000 where the words don't say.
+    pub rounds: u32,
+}
+
+/// A command that is built, with the names of its files.
+#[derive(Clone, Copy, Debug)]
+pub enum Command<'a> {
+    /// `uni IMAGE SCRIPT`: the image on one hart.
+    Uni {
+        image: &'a str,
+        script: &'a str,
+    },
+    /// `replay IMAGE MAP SCRIPT JOURNAL`: the run that the journal tells.
+    Replay {
+        image: &'a str,
+        map: &'a str,
+        script: &'a str,
+        journal: &'a str,
+    },
+}
+
+/// What right words ask for: a command that is built, or one that is to come.
+#[derive(Clone, Copy, Debug)]
+pub enum Request<'a> {
+    Built(Command<'a>),
+    /// `run IMAGE MAP SCRIPT JOURNAL [--harts N] [--steps L] [--rounds R]`
+    Run {
+        image: &'a str,
+        map: &'a str,
+        script: &'a str,
+        journal: &'a str,
+        options: Options,
+    },
+    /// `lockstep IMAGE MAP SCRIPT PLAN JOURNAL`, with the options of `run`.
+    Lockstep {
+        image: &'a str,
+        map: &'a str,
+        script: &'a str,
+        plan: &'a str,
+        journal: &'a str,
+        options: Options,
+    },
+    /// `load NUMBER`, from 0 to 4,294,967,295.
+    Load {
+        number: u64,
+    },
+}
+
+/// Why the words give nothing.
+#[derive(Clone, Copy, Debug, PartialEq, Eq)]
+pub enum WordsFault {
+    /// They are no use of the program.
+    Usage,
+    /// Memory could not be had.
+    OutOfMemory,
+}
