@@ -1,0 +1,4 @@
+pub mod Shown
+pub mod Rule
+pub mod Plays
+pub mod Ready
