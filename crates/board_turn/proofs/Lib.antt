@@ -1,2 +1,4 @@
 pub mod Lists
 pub mod Shows
+pub mod Rules
+pub mod Turns
