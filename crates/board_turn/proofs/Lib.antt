@@ -2,4 +2,6 @@ pub mod Lists
 pub mod Shows
 pub mod Rules
 pub mod Turns
-pub mod Seats
+pub mod Seating
+pub mod Readies
+pub mod StepTicks

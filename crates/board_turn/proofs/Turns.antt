@@ -45,7 +45,7 @@ peek_out true at n e = e
 peek_out false at n e = refl
 
 -- a default doesn't matter where there is an element
-default_free : (l : List ℕ) (k d e : ℕ) → k < length l → get_or l k d ≡ get_or l k e
+pub default_free : (l : List ℕ) (k d e : ℕ) → k < length l → get_or l k d ≡ get_or l k e
 default_free [] k d e lt = absurd (omega arith)
 default_free (x ∷ xs) zero d e lt = refl
 default_free (x ∷ xs) (suc k) d e lt = default_free xs k d e (omega arith)
@@ -67,8 +67,12 @@ snoc_else l a d k ne =
 pub other_word : (words : List ℕ) (i j n : ℕ) → (j ≡ i → ⊥) → word (set words i n) j ≡ word words j
 other_word words i j n ne = get_or-set_other words i j n 0 ne
 
-turn_there : (words : List ℕ) → length words ≡ WORDS → TURN < length words
+pub turn_there : (words : List ℕ) → length words ≡ WORDS → TURN < length words
 turn_there words e = omega (arith, e)
+
+-- a seat by its view and the slots that it holds
+abbrev pub seat_with : {B : Type 0} → View B → List (ℕ × Option (Slot B)) → Me (Option (Slot B)) (View B)
+seat_with v out = (v, out)
 
 module _ {B : Type 0} (told_by : B → Told) (same : B → B → Type 0) where
   -- a rule over words that are the same
@@ -215,10 +219,6 @@ module _ {B : Type 0} (told_by : B → Told) (same : B → B → Type 0) where
     spent = (r.seats k).spent;
   }
 
-  -- a seat by its view and the slots that it holds
-  abbrev pub seat_with : View B → List (ℕ × Option (Slot B)) → Me (Option (Slot B)) (View B)
-  seat_with v out = (v, out)
-
   -- the compare and exchange of the turn word
   pub takes_allowed : (slots id seen : ℕ) (v : View B) → v.live ≡ true → is_transaction v.at.phase ≡ true → v.at.place ≡ place.Take seen
       → Allows (Ruled told_by same) slots id (v, []) TURN (λ n. either (n == seen) (turn_word (mask_of seen) (suc v.at.hart.0)) n) (Takes told_by same (step slots TURN seen (turn_word (mask_of seen) (suc v.at.hart.0)) none) (v, []))
@@ -328,6 +328,13 @@ module _ {B : Type 0} (told_by : B → Told) (same : B → B → Type 0) where
         refl,
       )
 
+  -- the same, where the index of the note is known by an equation
+  pub stores_at : (slots id n j : ℕ) (me : Me (Option (Slot B)) (View B)) → length me.0.stored ≡ j → me.0.live ≡ true → holds me.0.at.place ≡ true → j < NOTE_WORDS
+      → Allows (Ruled told_by same) slots id me (NOTES + j) (λ m. n) (λ m. Stores (step slots (NOTES + j) n 0 none) me n)
+  stores_at slots id n j me e live held lt =
+      subst (λ i. Allows (Ruled told_by same) slots id me (NOTES + i) (λ m. n) (λ m. Stores (step slots (NOTES + i) n 0 none) me n)) e
+      (stores_allowed slots id n me live held (subst (λ i. i < NOTE_WORDS) (sym e) lt))
+
   -- the store of the turn word
   pub gives_allowed : (slots id : ℕ) (v : View B) (bus : B) (last : Answer) → v.live ≡ true → is_transaction v.at.phase ≡ true → holds v.at.place ≡ true
       → HonestCall (act_of v.at.hart.0 v.at.phase) (view_told v) last (told_by bus) → IsOrigin same v.start bus → v.stored ≡ note_words (notes_in (told_by bus))
@@ -394,3 +401,20 @@ module _ {B : Type 0} (told_by : B → Told) (same : B → B → Type 0) where
         },
         refl,
       )
+
+  -- the same, where the seat is known by an equation
+  pub gives_at : (slots id mask : ℕ) (me : Me (Option (Slot B)) (View B)) (v : View B) (bus : B) (last : Answer) → me ≡ seat_with v ((0, Some (record { bus = bus; last = last })) ∷ []) → mask ≡ (told_by bus).mask
+      → v.live ≡ true → is_transaction v.at.phase ≡ true → holds v.at.place ≡ true
+      → HonestCall (act_of v.at.hart.0 v.at.phase) (view_told v) last (told_by bus) → IsOrigin same v.start bus → v.stored ≡ note_words (notes_in (told_by bus))
+      → Allows (Ruled told_by same) slots id me TURN (λ n. mask) (λ n. Gives (step slots TURN mask 0 none) me mask)
+  gives_at slots id mask me v bus last e f live t held honest origin stored =
+      subst (λ m. Allows (Ruled told_by same) slots id m TURN (λ n. mask) (λ n. Gives (step slots TURN mask 0 none) m mask)) (sym e)
+      (subst (λ k. Allows (Ruled told_by same) slots id (seat_with v ((0, Some (record { bus = bus; last = last })) ∷ [])) TURN (λ n. k) (λ n. Gives (step slots TURN k 0 none) (seat_with v ((0, Some (record { bus = bus; last = last })) ∷ [])) k)) (sym f)
+      (gives_allowed slots id v bus last live t held honest origin stored))
+
+  pub takes_at : (slots id seen to : ℕ) (me : Me (Option (Slot B)) (View B)) → me.1 ≡ [] → to ≡ turn_word (mask_of seen) (suc me.0.at.hart.0) → me.0.live ≡ true → is_transaction me.0.at.phase ≡ true → me.0.at.place ≡ place.Take seen
+      → Allows (Ruled told_by same) slots id me TURN (λ n. either (n == seen) to n) (Takes told_by same (step slots TURN seen to none) me)
+  takes_at slots id seen to me out e live t p =
+      subst (λ k. Allows (Ruled told_by same) slots id me TURN (λ n. either (n == seen) k n) (Takes told_by same (step slots TURN seen k none) me)) (sym e)
+      (subst (λ l. Allows (Ruled told_by same) slots id (seat_with me.0 l) TURN (λ n. either (n == seen) (turn_word (mask_of seen) (suc me.0.at.hart.0)) n) (Takes told_by same (step slots TURN seen (turn_word (mask_of seen) (suc me.0.at.hart.0)) none) (seat_with me.0 l))) (sym out)
+      (takes_allowed slots id seen me.0 live t p))

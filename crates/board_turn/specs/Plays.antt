@@ -35,6 +35,13 @@ after_call a at = record at { phase = after_answer at.harts at.hart.0 at.phase a
 abbrev pub taken : {B : Type 0} → Told → View B → View B
 taken b v = record v { at = at_place place.Give v.at; mask = b.mask; notes = notes_in b; stored = [] }
 
+-- a seat that has stored these notes; one of hart 0 to which the seats from this one on were joined
+abbrev pub with_stored : {B : Type 0} → List ℕ → Me (Option (Slot B)) (View B) → Me (Option (Slot B)) (View B)
+with_stored notes me = (record me.0 { stored = notes }, me.1)
+
+abbrev pub with_left : {B : Type 0} → ℕ → Me (Option (Slot B)) (View B) → Me (Option (Slot B)) (View B)
+with_left left me = (record me.0 { left = left }, me.1)
+
 -- the k-th note, as the holder of the turn knows it
 abbrev pub note_now : {B : Type 0} → View B → ℕ → ℕ
 note_now v k = slice_index_or v.stored k (note (view_told v) k)

@@ -94,7 +94,7 @@ abbrev pub one_more : {B : Type 0} → View B → View B
 one_more v = record v { at = record v.at { made = v.at.made + 1 }; left = v.left + 1 }
 
 abbrev pub next_view : {B : Type 0} → View B → View B
-next_view v = record v { at = standing_of v.at.made v.at.harts v.at.limit 0 }
+next_view v = record v { at = standing_of v.at.made v.at.harts v.at.limit 0; left = 0 }
 
 -- hart 0's view after the joining of the last seat that is left
 abbrev pub one_fewer : {B : Type 0} → View B → View B

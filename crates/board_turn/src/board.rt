@@ -10,6 +10,7 @@ use std::marker::PhantomData;
 use std::snapshot::Snapshot;
 
 /// What the board is told once, when it is made: the bus that it is made with, the number of harts, and that of rounds.
+#[derive(Drop)]
 pub struct Key<B> {
     pub start: Snapshot<B>,
     pub harts: u8,

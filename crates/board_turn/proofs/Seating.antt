@@ -1,16 +1,18 @@
 -- The making and the joining of seats, the board's beginning and its end.
 use Rattle.std.proofs.Common.{◌≡◌, ℕ, suc, zero, ◌+◌, ◌-◌, ◌<◌, ◌≤◌, ◌==◌, ◌||◌, Bool, true, false, List, [], ◌∷◌, ◌++◌, length, get_or, set, refl, sym, ◌∙◌, ap, subst, inl, inr, arith, Option, Some, None}
 use Rattle.std.proofs.Math.Path.{fun_ext}
-use mathlib.Core.Option.{none, some}
+use mathlib.Core.Option.{none, some, some-injective}
 use lib.ListN.{get_elem?}
 use Rattle.std.proofs.lemmas.Bool.{both_ways, cases_eq, cases_lt, eq-eqb}
 use Rattle.std.proofs.lemmas.List.{length-set}
+use Rattle.atomic_table.specs.Seated.{TableId}
 use Rattle.atomic_table.specs.Table.{State, Splits, Joins, Final, Seen, opening}
 use Rattle.deck_core.specs.Invariant.{Sound}
 use Rattle.deck_core.specs.contract.Told.{Told, IsOpening}
 use Rattle.deck_core.specs.plain.Words.{holder_of}
 use Rattle.deck_core.specs.ticks.Configuration.{Configuration}
 use Rattle.deck_core.specs.ticks.Phases.{holds, is_finished, is_shut}
+use Rattle.deck_core.specs.ticks.NextPhase.{is_transaction}
 use Rattle.deck_core.specs.ticks.Tick.{enters}
 use Rattle.deck_core.specs.declared.plain.act.Answer.{Answer}
 use Rattle.deck_core.specs.declared.plain.note_words.TheConstants.{NOTE_WORDS}
@@ -21,11 +23,13 @@ use Rattle.deck_core.specs.declared.plain.phase.Place.TheVariants as place
 use Rattle.deck_core.proofs.Joined.{finished_leaves}
 use Rattle.deck_core.proofs.Opening.{opening_is_sound}
 use Rattle.deck_core.proofs.TurnWords.{holder_of-small}
+use Rattle.board_turn.specs.declared.board.Pass.{Pass}
 use Rattle.board_turn.specs.declared.view.View.{View}
 use Rattle.board_turn.specs.declared.view.Slot.{Slot}
 use Rattle.board_turn.specs.declared.words.TheConstants.{TURN, MASTER, GATE, NOTES, OWN, WORDS}
 use Rattle.board_turn.specs.Shown.{word, note, view_of, blank_view, shown, first_view, one_more, next_view, one_fewer}
 use Rattle.board_turn.specs.Rule.{Ruled, SeatFits, IsSeatOf, IsSpent, HoldsTurn, IsHome, IsOrigin, Counts}
+use Rattle.board_turn.specs.Ready.{IsDone, start_of}
 use Rattle.board_turn.proofs.Lists.{At, at_get, snoc_new, snoc_old, snoc_past, past}
 use Rattle.board_turn.proofs.Shows.{part, part_stays, shown_by, shown_enters, shown_stays, same_words, shown-phase, shown-place, shown-told, shown-turn, view_same, view_other}
 use Rattle.board_turn.proofs.Rules.{Sits, sits, seats_fit, live_fits, phase_shown}
@@ -85,7 +89,7 @@ module _ {B : Type 0} where
         ]
       ]
 
-length_snoc : {A : Type 0} (xs : List A) (a : A) → length (xs ++ a ∷ []) ≡ length xs + 1
+pub length_snoc : {A : Type 0} (xs : List A) (a : A) → length (xs ++ a ∷ []) ≡ length xs + 1
 length_snoc [] a = refl
 length_snoc (x ∷ xs) a = ap suc (length_snoc xs a) ∙ omega arith
 
@@ -93,6 +97,11 @@ length_snoc (x ∷ xs) a = ap suc (length_snoc xs a) ∙ omega arith
 none_above : (n : ℕ) → ((h : ℕ) → n ≡ suc h → ⊥) → n ≡ 0
 none_above zero no_one = refl
 none_above (suc n) no_one = absurd (no_one n refl)
+
+-- a finished hart is in no transaction
+finished_outside : (p : Phase) → is_finished p ≡ true → is_transaction p ≡ false
+finished_outside phase.Finished e = refl
+finished_outside _ e = absurd (both_ways false refl e)
 
 -- the bus that a closed board has in its slot: it has the origin of the start, and an ending stands
 pub record Ends {B : Type 0} (told_by : B → Told) (same : B → B → Type 0) (start : Option B) (slots : List (Option (Slot B))) : Type 0 where
@@ -275,3 +284,29 @@ module _ {B : Type 0} (told_by : B → Told) (same : B → B → Type 0) where
         origin = subst (λ o. IsOrigin same o home.bus) (sym x.seat.of_start) home.origin;
         over = ap (λ b. b.over) home.tells ∙ (ap (λ b. b.over) (sym (shown-told r.rounds s.words s.views r.told)) ∙ (r.sound.harts id).finished done);
       }
+
+  -- the same, of a pass
+  pub closed_ends : (table : TableId) (first : Pass B) (v : View B) (id : ℕ) (words : List ℕ) (slots : List (Option (Slot B))) → IsDone table (start_of first) 0 first → v ≡ record first.seat.me.0 { left = 1 }
+      → Final (Seen (Ruled told_by same) id v) words slots → Ends told_by same (start_of first) slots
+  closed_ends table first v id words slots d e f =
+      let at : v.at ≡ first.stand = ap (λ u. u.at) e ∙ d.ready.view in
+      subst (λ o. Ends told_by same o slots) (ap (λ u. u.start) e)
+      (ends id v words slots (ap (λ u. u.live) e ∙ d.ready.live) (ap (λ a. a.hart.0) at ∙ d.hart) (ap (λ u. u.left) e) (ap (λ a. is_finished a.phase) at ∙ d.finished)
+      (ap (λ a. a.place) at ∙ d.ready.outside (finished_outside first.stand.phase d.finished)) f)
+
+  -- the slot that is taken has the bus
+  slot_there : (start : Option B) (slots : List (Option (Slot B))) (x : Option (Slot B)) (e : Ends told_by same start slots) → get_elem? slots 0 ≡ some x → Some (record { bus = e.bus; last = e.last }) ≡ x
+  slot_there start slots x e there = some-injective (Some (record { bus = e.bus; last = e.last })) x (sym e.here ∙ there)
+
+  no_slot : (s : Slot B) → Some s ≡ None → ⊥
+  no_slot s e = cc
+
+  pub none_there : {start : Option B} {slots : List (Option (Slot B))} (e : Ends told_by same start slots) (x : Option (Slot B)) → get_elem? slots 0 ≡ some x → x ≡ None → ⊥
+  none_there {start} {slots} e x there none_is = no_slot (record { bus = e.bus; last = e.last }) (slot_there start slots x e there ∙ none_is)
+
+  abbrev bus_in : B → Option (Slot B) → B
+  bus_in b None = b
+  bus_in b (Some s) = s.bus
+
+  pub bus_there : {start : Option B} {slots : List (Option (Slot B))} (e : Ends told_by same start slots) (s : Slot B) → get_elem? slots 0 ≡ some (Some s) → s.bus ≡ e.bus
+  bus_there {start} {slots} e s there = sym (ap (bus_in e.bus) (slot_there start slots (Some s) e there))
