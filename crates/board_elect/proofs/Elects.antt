@@ -159,3 +159,48 @@ want_is_tick rounds words views b h v a told x p =
     let own : v.at.hart.0 ≡ h = x.before.hart in
     ap (λ i. shown rounds (set words (OWN + i) 1) (set views h (moved_to (to_phase phase.Want v.at) v)) b) own
     ∙ any_answer (shown rounds words views b) _ h a told (out_of rounds words views b h v x phase.Wish p refl) (want_ticks rounds words views b h v x p)
+
+pub try_is_tick : {B : Type 0} → TryIsTick B
+try_is_tick {B} rounds words views b h v a told x p =
+    let w : View B = moved_to (to_phase phase.Own v.at) v in
+    let won : moved_to (after_try (word words MASTER) v.at) v ≡ w = ap (λ q. moved_to (to_phase q v.at) v) (cond-true (word words MASTER == 0) phase.Own phase.Want (eq-eqb (word words MASTER) 0 p.1)) in
+    ap (λ i. shown rounds (set words MASTER (suc i)) (set views h (moved_to (after_try (word words MASTER) v.at) v)) b) x.before.hart
+    ∙ (ap (λ u. shown rounds (set words MASTER (suc h)) (set views h u) b) won
+    ∙ any_answer (shown rounds words views b) _ h a told (out_of rounds words views b h v x phase.Want p.0 refl) (try_ticks rounds words views b h v x p.0 p.1))
+
+pub lose_is_tick : {B : Type 0} → LoseIsTick B
+lose_is_tick {B} rounds words views b h v a told x p =
+    let w : View B = moved_to (to_phase phase.Want v.at) v in
+    let lost : moved_to (after_try (word words MASTER) v.at) v ≡ w = ap (λ q. moved_to (to_phase q v.at) v) (cond-false (word words MASTER == 0) phase.Own phase.Want (ne_eqb (word words MASTER) 0 p.1)) in
+    ap (λ u. shown rounds (set words MASTER (word words MASTER)) (set views h u) b) lost
+    ∙ any_answer (shown rounds words views b) _ h a told (out_of rounds words views b h v x phase.Want p.0 refl) (lose_ticks rounds words views b h v x p.0 p.1)
+
+pub clear_is_tick : {B : Type 0} → ClearIsTick B
+clear_is_tick rounds words views b h v a told x t =
+    ap (λ i. shown rounds (set words (OWN + i) 0) (set views h (moved_to (to_phase (after_clear v.at.phase) v.at) v)) b) x.before.hart
+    ∙ any_answer (shown rounds words views b) _ h a told (out_of rounds words views b h v x v.at.phase refl (clears_out v.at.phase t)) (clearing_ticks rounds words views b h v x t)
+
+pub free_is_tick : {B : Type 0} → FreeIsTick B
+free_is_tick rounds words views b h v a told x p =
+    any_answer (shown rounds words views b) _ h a told (out_of rounds words views b h v x phase.Free p refl) (free_ticks rounds words views b h v x p)
+
+pub shut_is_tick : {B : Type 0} → ShutIsTick B
+shut_is_tick rounds words views b h v a told x p =
+    any_answer (shown rounds words views b) _ h a told (out_of rounds words views b h v x phase.Shut p refl) (shut_ticks rounds words views b h v x p)
+
+pub look_is_tick : {B : Type 0} → LookIsTick B
+look_is_tick looks lt rounds words views b h v a told x p =
+    any_answer (shown rounds words views b) _ h a told (out_of rounds words views b h v x (phase.Gather looks) p.0 refl) (looking_ticks rounds words views b h v x looks p.0 p.1 lt)
+
+pub open_gate_is_tick : {B : Type 0} → OpenGateIsTick B
+open_gate_is_tick rounds words views b h v a told x p =
+    any_answer (shown rounds words views b) _ h a told (out_of rounds words views b h v x phase.OpenGate p refl) (open_ticks rounds words views b h v x p)
+
+pub see_gate_is_tick : {B : Type 0} → SeeGateIsTick B
+see_gate_is_tick rounds words views b h v a told x t =
+    any_answer (shown rounds words views b) _ h a told (out_of rounds words views b h v x v.at.phase refl (sees_out v.at.phase t)) (see_ticks rounds words views b h v x t)
+
+pub mark_is_tick : {B : Type 0} → MarkIsTick B
+mark_is_tick gate rounds words views b h v a told x p =
+    ap (λ i. shown rounds (set words (OWN + i) gate) (set views h (moved_to (to_phase (phase.Parked gate) v.at) v)) b) x.before.hart
+    ∙ any_answer (shown rounds words views b) _ h a told (out_of rounds words views b h v x (phase.Mark gate) p refl) (mark_ticks rounds words views b h v x gate p)

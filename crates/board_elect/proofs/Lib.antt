@@ -1,3 +1,2 @@
 pub mod Elects
 pub mod Rights
-pub mod Standings

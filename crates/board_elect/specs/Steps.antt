@@ -61,7 +61,7 @@ ShutIsTick B = StepIsTick B (λ words at. at.phase ≡ phase.Shut) (λ at. GATE)
 
 -- the number that the hart keeps is the gate's
 abbrev pub LookIsTick : Type 0 → Type 0
-LookIsTick B = (looks : Looks) → StepIsTick B (λ words at. (at.phase ≡ phase.Gather looks) × (at.gate ≡ word words GATE)) next_index (λ n at. n) after_looking
+LookIsTick B = (looks : Looks) → looks.next < MASK_HARTS → StepIsTick B (λ words at. (at.phase ≡ phase.Gather looks) × (at.gate ≡ word words GATE)) next_index (λ n at. n) after_looking
 
 abbrev pub OpenGateIsTick : Type 0 → Type 0
 OpenGateIsTick B = StepIsTick B (λ words at. at.phase ≡ phase.OpenGate) (λ at. GATE) (λ n at. suc n) after_opening
