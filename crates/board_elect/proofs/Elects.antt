@@ -28,12 +28,12 @@ use Rattle.board_elect.specs.Steps.{Stands, WantIsTick, TryIsTick, LoseIsTick, C
 pub any_answer : (c next : Configuration) (h : ℕ) (a : Answer) (after : Told) → is_transaction (c.phase h) ≡ false → Ticks h c next → next ≡ tick h a after c
 any_answer c next h a after out t = t.ticked ∙ quiet_tick h t.answer a t.after after c (and_left (is_transaction (c.phase h)) (holds (c.place h)) out)
 
-clears_out : (p : Phase) → clears p ≡ true → is_transaction p ≡ false
+pub clears_out : (p : Phase) → clears p ≡ true → is_transaction p ≡ false
 clears_out (phase.Unmark gate) e = refl
 clears_out phase.Drop e = refl
 clears_out _ e = absurd (both_ways false refl e)
 
-sees_out : (p : Phase) → sees_gate p ≡ true → is_transaction p ≡ false
+pub sees_out : (p : Phase) → sees_gate p ≡ true → is_transaction p ≡ false
 sees_out phase.Called e = refl
 sees_out (phase.Parked gate) e = refl
 sees_out _ e = absurd (both_ways false refl e)

@@ -1,2 +1,3 @@
 pub mod Elects
 pub mod Rights
+pub mod Standings

@@ -31,8 +31,8 @@ use Rattle.board_turn.specs.Rule.{Ruled}
 use Rattle.board_turn.specs.Shown.{shown, view_of, word}
 use Rattle.board_turn.proofs.Lists.{reload}
 use Rattle.board_turn.proofs.Rules.{Quiet, Sits, SameSeat, one_shut, quiet, sits}
-use Rattle.board_turn.proofs.Shows.{shown-gate, shown-told}
-use Rattle.board_elect.specs.Plays.{Moves, Shuts, after_want, after_try, after_freeing, after_clearing, after_shutting, after_looking, after_opening, after_seeing, after_marking, to_phase}
+use Rattle.board_turn.proofs.Shows.{shown-gate, shown-master, shown-told}
+use Rattle.board_elect.specs.Plays.{Moves, Shuts, Tries, after_want, after_try, after_freeing, after_clearing, after_shutting, after_looking, after_opening, after_seeing, after_marking, to_phase}
 use Rattle.board_elect.specs.Steps.{Stands}
 use Rattle.board_elect.proofs.Elects.{clearing_ticks, free_ticks, looking_ticks, lose_ticks, mark_ticks, open_ticks, see_ticks, shut_ticks, try_ticks, want_ticks}
 
@@ -172,7 +172,7 @@ module _ {B : Type 0} (told_by : B → Told) (same : B → B → Type 0) where
       )
 
   pub try_allowed : (slots id : ℕ) (me : Me (Option (Slot B)) (View B)) → me.0.live ≡ true → me.0.at.place ≡ place.Peek → me.0.at.phase ≡ phase.Want
-      → Allows (Ruled told_by same) slots id me MASTER (λ n. either (n == 0) (suc me.0.at.hart.0) n) (Moves after_try (step slots MASTER 0 (suc me.0.at.hart.0) none) me)
+      → Allows (Ruled told_by same) slots id me MASTER (λ n. either (n == 0) (suc me.0.at.hart.0) n) (Tries (step slots MASTER 0 (suc me.0.at.hart.0) none) me)
   try_allowed slots id me live p q s r wide at small =
       let v : View B = me.0 in
       let x : Sits told_by same s r id v = sits told_by same s r id v at live in
@@ -188,7 +188,10 @@ module _ {B : Type 0} (told_by : B → Told) (same : B → B → Type 0) where
         | inr n ↦ subst F (sym n) (loaded s r id v (to_phase phase.Want v.at) MASTER x live p refl refl refl refl refl (omega arith) (λ e. absurd (both_ways false refl e))
             (lose_ticks r.rounds s.words s.views r.told id v y q (eqb-false found 0 n)))
       ] in
-      (moved_to (after_try found v.at) v, table.keeps, tt, holds_after, refl)
+      let small_word : found ≤ v.at.harts =
+      subst (λ n. n ≤ v.at.harts) (shown-master r.rounds s.words s.views r.told)
+      (subst (λ n. (shown r.rounds s.words s.views r.told).master ≤ n) (ap (λ b. b.harts) (shown-told r.rounds s.words s.views r.told) ∙ sym x.seat.of_harts) r.sound.master) in
+      (moved_to (after_try found v.at) v, table.keeps, tt, holds_after, (refl, small_word))
 
   -- the gate's number is small
   gate_small : (s : State (Option (Slot B)) (View B)) (r : Ruled told_by same s) → word s.words GATE ≤ 2 * MOST_LINES + 4
@@ -264,3 +267,25 @@ module _ {B : Type 0} (told_by : B → Told) (same : B → B → Type 0) where
                 (looking_ticks r.rounds s.words s.views r.told id v (stands s r id v x p) looks q shut lt),
             refl,
           ))
+
+  -- the same, where the word is known by an equation
+  pub try_at : (slots id to : ℕ) (me : Me (Option (Slot B)) (View B)) → to ≡ suc me.0.at.hart.0 → me.0.live ≡ true → me.0.at.place ≡ place.Peek → me.0.at.phase ≡ phase.Want
+      → Allows (Ruled told_by same) slots id me MASTER (λ n. either (n == 0) to n) (Tries (step slots MASTER 0 to none) me)
+  try_at slots id to me e live p q =
+      subst (λ k. Allows (Ruled told_by same) slots id me MASTER (λ n. either (n == 0) k n) (Tries (step slots MASTER 0 k none) me)) (sym e) (try_allowed slots id me live p q)
+
+  pub want_at : (slots id h : ℕ) (me : Me (Option (Slot B)) (View B)) → me.0.at.hart.0 ≡ h → me.0.live ≡ true → me.0.at.place ≡ place.Peek → me.0.at.phase ≡ phase.Wish
+      → Allows (Ruled told_by same) slots id me (OWN + h) (λ n. 1) (λ n. Moves after_want (step slots (OWN + h) 1 0 none) me 1)
+  want_at slots id h me e live p q = subst (λ i. Allows (Ruled told_by same) slots id me (OWN + i) (λ n. 1) (λ n. Moves after_want (step slots (OWN + i) 1 0 none) me 1)) e (want_allowed slots id me live p q)
+
+  pub clear_at : (slots id h : ℕ) (me : Me (Option (Slot B)) (View B)) → me.0.at.hart.0 ≡ h → me.0.live ≡ true → me.0.at.place ≡ place.Peek → clears me.0.at.phase ≡ true
+      → Allows (Ruled told_by same) slots id me (OWN + h) (λ n. 0) (λ n. Moves after_clearing (step slots (OWN + h) 0 0 none) me 0)
+  clear_at slots id h me e live p q = subst (λ i. Allows (Ruled told_by same) slots id me (OWN + i) (λ n. 0) (λ n. Moves after_clearing (step slots (OWN + i) 0 0 none) me 0)) e (clear_allowed slots id me live p q)
+
+  pub mark_at : (slots id h gate : ℕ) (me : Me (Option (Slot B)) (View B)) → me.0.at.hart.0 ≡ h → me.0.live ≡ true → me.0.at.place ≡ place.Peek → me.0.at.phase ≡ phase.Mark gate
+      → Allows (Ruled told_by same) slots id me (OWN + h) (λ n. gate) (λ n. Moves after_marking (step slots (OWN + h) gate 0 none) me gate)
+  mark_at slots id h gate me e live p q = subst (λ i. Allows (Ruled told_by same) slots id me (OWN + i) (λ n. gate) (λ n. Moves after_marking (step slots (OWN + i) gate 0 none) me gate)) e (mark_allowed slots id gate me live p q)
+
+  pub look_at : (slots id k : ℕ) (looks : Looks) (me : Me (Option (Slot B)) (View B)) → looks.next ≡ k → me.0.live ≡ true → me.0.at.place ≡ place.Peek → me.0.at.phase ≡ phase.Gather looks → looks.next < 32
+      → Allows (Ruled told_by same) slots id me (OWN + k) (λ n. n) (Moves after_looking (step slots (OWN + k) 0 0 none) me)
+  look_at slots id k looks me e live p q lt = subst (λ i. Allows (Ruled told_by same) slots id me (OWN + i) (λ n. n) (Moves after_looking (step slots (OWN + i) 0 0 none) me)) e (look_allowed slots id looks me live p q lt)

@@ -54,3 +54,7 @@ Moves f s me n after = after ≡ (moved_to (f n me.0.at) me.0, me.1)
 -- the shutting tells besides that the gate's number is small
 abbrev pub Shuts : {B : Type 0} → Step (Option (Slot B)) → Me (Option (Slot B)) (View B) → ℕ → Me (Option (Slot B)) (View B) → Type 0
 Shuts s me n after = (after ≡ (moved_to (after_shutting n me.0.at) me.0, me.1)) × (n ≤ 2 * MOST_LINES + 4)
+
+-- the exchange of the master word tells besides that the word names a hart, or none
+abbrev pub Tries : {B : Type 0} → Step (Option (Slot B)) → Me (Option (Slot B)) (View B) → ℕ → Me (Option (Slot B)) (View B) → Type 0
+Tries s me n after = (after ≡ (moved_to (after_try n me.0.at) me.0, me.1)) × (n ≤ me.0.at.harts)

@@ -11,10 +11,18 @@
 //! `deck_core`.
 #![tactic(auto)]
 
+mod deck;
+mod found;
+mod gate;
 mod laws;
+mod masters;
 mod plays;
 
+pub use deck::BoardSeat;
+pub use found::Mark;
+pub use gate::{look, mark, open_gate, see_gate, shut};
 pub use laws::{
     clear_is_tick, free_is_tick, look_is_tick, lose_is_tick, mark_is_tick, open_gate_is_tick,
     see_gate_is_tick, shut_is_tick, try_is_tick, want_is_tick,
 };
+pub use masters::{Taken, clear, free, try_master, want};

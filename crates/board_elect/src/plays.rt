@@ -1,5 +1,5 @@
 //! What each election step tells the hart that makes it. These types are for the proofs alone.
-ghost use Rattle.board_elect.specs.Plays.{Moves, Shuts, after_want, after_try, after_freeing, after_clearing, after_shutting, after_looking, after_opening, after_seeing, after_marking};
+ghost use Rattle.board_elect.specs.Plays.{Moves, Shuts, Tries, after_want, after_freeing, after_clearing, after_shutting, after_looking, after_opening, after_seeing, after_marking};
 
 use atomic_table::Play;
 use board_turn::{Slot, View};
@@ -16,7 +16,7 @@ impl<B: Bus> Play<Option<Slot<B>>, View<B>> for Want {
 pub(crate) struct TryMaster;
 
 impl<B: Bus> Play<Option<Slot<B>>, View<B>> for TryMaster {
-    ghost then = { Moves after_try };
+    ghost then = { Tries };
 }
 
 /// The store of 0 to the hart's own word.
