@@ -19,6 +19,8 @@ mod laws;
 mod notes;
 mod plays;
 mod seats;
+#[cfg(test)]
+mod tests;
 mod turn;
 mod view;
 mod words;

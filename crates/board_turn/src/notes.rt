@@ -43,7 +43,7 @@ impl<B: Bus> Board<B> {
         ensures table { seat.new.table_id ≡ seat.old.table_id }
         ensures stored { seat.new.me ≡ with_stored notes seat.old.me }
     {
-        for k in 0..NOTE_WORDS {
+        for k in 0..notes.len() {
             self.table
                 .shared
                 .store::<StoreNote>(seat, NOTES + k, notes[k]);

@@ -7,8 +7,8 @@
 //! It stands on `deck_core`, and only tests stand on it.
 #![tactic(auto)]
 
-mod small_bus;
+mod scripted;
 #[cfg(test)]
 mod tests;
 
-pub use small_bus::{STEP, SmallBus, small_bus};
+pub use scripted::{STEP, SmallBus, small_bus};

@@ -1,12 +1,10 @@
-//! The bus by its first calls.
+//! What a new bus tells.
 use crate::small_bus;
-use deck_core::{Bus, Turned};
-use mach_base::{Hart, Reason};
+use deck_core::Bus;
 
 #[test]
 fn hart_0_has_a_trap_at_the_start(rt: HostRuntime) {
-    let mut bus = small_bus(1);
-    assert_eq!(rt; bus.hart_step(Hart(0)), Turned::Trapped);
-    assert_eq!(rt; bus.check(Hart(0)), Some(Reason::Start));
-    assert_eq!(rt; (bus.check(Hart(1)), bus.harts()), (None, 2));
+    let bus = small_bus(1);
+    assert_eq!(rt; (bus.harts(), bus.mask()), (2, 0));
+    assert_eq!(rt; (bus.notes().traps, bus.over(), bus.lost()), (1, None, false));
 }

@@ -3,8 +3,8 @@ use Rattle.std.proofs.lemmas.Bool.{ltb-true, and_parts}
 use Rattle.deck_core.specs.declared.plain.act.Act.TheVariants as act
 use Rattle.deck_core.proofs.Allowed.{allowed_names}
 use Rattle.mach_base.proofs.Bits.{all_but-lt}
-use Rattle.test_bus.proofs.small_bus.SmallBusBus.enter.Goals as goal
-use Rattle.test_bus.proofs.small_bus.SmallBusBus.enter.Goals.{then-is_none, else-is_none}
+use Rattle.test_bus.proofs.scripted.SmallBusBus.enter.Goals as goal
+use Rattle.test_bus.proofs.scripted.SmallBusBus.enter.Goals.{then-is_none, else-is_none}
 
 pub invariant_of-self-clause-stopped : goal.invariant_of-self-clause-stopped
 invariant_of-self-clause-stopped c =

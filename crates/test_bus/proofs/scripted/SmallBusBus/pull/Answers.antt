@@ -3,7 +3,7 @@ use Rattle.std.proofs.lemmas.Bool.{ltb-true}
 use Rattle.deck_core.specs.declared.plain.act.Act.TheVariants as act
 use Rattle.deck_core.proofs.Allowed.{allowed_names}
 use Rattle.mach_base.proofs.Bits.{mask_without-lt}
-use Rattle.test_bus.proofs.small_bus.SmallBusBus.pull.Goals as goal
+use Rattle.test_bus.proofs.scripted.SmallBusBus.pull.Goals as goal
 
 pub mask_without-self-requires : goal.mask_without-self-requires
 mask_without-self-requires c = omega (arith, ltb-true c.args.i 16 (allowed_names (act.Pull c.args.i) _ c.requires))

@@ -2,7 +2,7 @@ use Rattle.std.proofs.Common.{◌<◌, ◌-◌, ◌*◌, ◌||◌, suc, false, n
 use Rattle.std.proofs.lemmas.Bool.{ltb-true, and_parts}
 use Rattle.deck_core.specs.declared.plain.act.Act.TheVariants as act
 use Rattle.deck_core.proofs.Allowed.{allowed_legal}
-use Rattle.test_bus.proofs.small_bus.SmallBusBus.send.Goals as goal
+use Rattle.test_bus.proofs.scripted.SmallBusBus.send.Goals as goal
 
 pub overflow_add-self : goal.overflow_add-self
 overflow_add-self c =

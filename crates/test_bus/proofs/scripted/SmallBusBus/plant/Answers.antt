@@ -3,7 +3,7 @@ use Rattle.std.proofs.lemmas.Bool.{ltb-true}
 use Rattle.deck_core.specs.declared.plain.act.Act.TheVariants as act
 use Rattle.deck_core.proofs.Allowed.{allowed_names}
 use Rattle.mach_base.proofs.Bits.{mask_with-lt}
-use Rattle.test_bus.proofs.small_bus.SmallBusBus.plant.Goals as goal
+use Rattle.test_bus.proofs.scripted.SmallBusBus.plant.Goals as goal
 
 pub mask_with-self-requires : goal.mask_with-self-requires
 mask_with-self-requires c = omega (arith, ltb-true c.args.i 16 (allowed_names (act.Plant c.args.i) _ c.requires))
