@@ -62,11 +62,11 @@ module _ {B : Type 0} (rounds : ℕ) (words : List ℕ) (views : List (View B)) 
       shown_step rounds words (set words (OWN + h) n) views b b h w c.turn c.master c.gate (put c.own h n) x.before.there
       (other (OWN + h) TURN n (λ e. omega (arith, e))) (other (OWN + h) MASTER n (λ e. omega (arith, e))) (other (OWN + h) GATE n (λ e. omega (arith, e)))
       (λ k.
-          elim (cases_eq k h) [
-            | inl e ↦ subst (λ j. word (set words (OWN + h) n) (OWN + j) ≡ put c.own h n j) (sym e)
-                (get_or-set_same words (OWN + h) n 0 (omega (arith, x.few, x.before.all_words)) ∙ sym (put_same c.own h n))
-            | inr ne ↦ other (OWN + h) (OWN + k) n (λ e. ne (omega (arith, e))) ∙ sym (put_other c.own h n k ne)
-          ])
+      elim (cases_eq k h) [
+        | inl e ↦ subst (λ j. word (set words (OWN + h) n) (OWN + j) ≡ put c.own h n j) (sym e)
+            (get_or-set_same words (OWN + h) n 0 (omega (arith, x.few, x.before.all_words)) ∙ sym (put_same c.own h n))
+        | inr ne ↦ other (OWN + h) (OWN + k) n (λ e. ne (omega (arith, e))) ∙ sym (put_other c.own h n k ne)
+      ])
       ∙ ap (λ f. record c { own = put c.own h n; phase = put c.phase h w.at.phase; place = f }) (put_again c.place h w.at.place (sym (same ∙ ap (λ u. u.at.place) (sym x.before.view))))
 
   master_shown : (n : ℕ) (w : View B) → w.at.place ≡ v.at.place → shown rounds (set words MASTER n) (set views h w) b ≡ record c { master = n; phase = put c.phase h w.at.phase }

@@ -179,7 +179,7 @@ module _ {B : Type 0} (told_by : B → Told) (same : B → B → Type 0) where
       let found : ℕ = word s.words MASTER in
       let y : Stands r.rounds s.words s.views r.told id v = stands s r id v x p in
       let F : Bool → Type 0 = λ b.
-          Ruled told_by same (record { words = set s.words MASTER (either b (suc v.at.hart.0) found); homes = s.homes; views = set s.views id (moved_to (to_phase (if b then phase.Own else phase.Want) v.at) v) }) in
+      Ruled told_by same (record { words = set s.words MASTER (either b (suc v.at.hart.0) found); homes = s.homes; views = set s.views id (moved_to (to_phase (if b then phase.Own else phase.Want) v.at) v) }) in
       let holds_after : F (found == 0) =
       elim (cases_Bool (found == 0)) [
         | inl t ↦ subst F (sym t)
@@ -255,18 +255,18 @@ module _ {B : Type 0} (told_by : B → Told) (same : B → B → Type 0) where
   look_allowed slots id looks me live p q lt =
       subst (λ k. Allows (Ruled told_by same) slots id me (OWN + k) (λ n. n) (Moves after_looking (step slots (OWN + k) 0 0 none) me)) (ap (λ f. (looks_in f).next) q)
       (λ s r wide at small.
-          let v : View B = me.0 in
-          let x : Sits told_by same s r id v = sits told_by same s r id v at live in
-          let i : ℕ = OWN + (looks_in v.at.phase).next in
-          let shut : v.at.gate ≡ word s.words GATE = x.seat.gate (ap is_shut q) in
-          let next_is : (looks_in v.at.phase).next ≡ looks.next = ap (λ f. (looks_in f).next) q in (
-            moved_to (after_looking (word s.words i) v.at) v,
-            table.keeps,
-            tt,
-            loaded s r id v (after_looking (word s.words i) v.at) i x live p refl refl refl refl refl (omega (arith, next_is, lt)) (λ e. shut)
-                (looking_ticks r.rounds s.words s.views r.told id v (stands s r id v x p) looks q shut lt),
-            refl,
-          ))
+      let v : View B = me.0 in
+      let x : Sits told_by same s r id v = sits told_by same s r id v at live in
+      let i : ℕ = OWN + (looks_in v.at.phase).next in
+      let shut : v.at.gate ≡ word s.words GATE = x.seat.gate (ap is_shut q) in
+      let next_is : (looks_in v.at.phase).next ≡ looks.next = ap (λ f. (looks_in f).next) q in (
+        moved_to (after_looking (word s.words i) v.at) v,
+        table.keeps,
+        tt,
+        loaded s r id v (after_looking (word s.words i) v.at) i x live p refl refl refl refl refl (omega (arith, next_is, lt)) (λ e. shut)
+            (looking_ticks r.rounds s.words s.views r.told id v (stands s r id v x p) looks q shut lt),
+        refl,
+      ))
 
   -- the same, where the word is known by an equation
   pub try_at : (slots id to : ℕ) (me : Me (Option (Slot B)) (View B)) → to ≡ suc me.0.at.hart.0 → me.0.live ≡ true → me.0.at.place ≡ place.Peek → me.0.at.phase ≡ phase.Want

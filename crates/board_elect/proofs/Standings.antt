@@ -1,6 +1,6 @@
 -- A pass stays ready over each election step.
 use Rattle.std.proofs.Common.{◌≡◌, ℕ, suc, ◌+◌, ◌<◌, ◌==◌, Bool, true, false, refl, sym, ◌∙◌, ap, subst, if◌then◌else◌, Option}
-use Rattle.std.specs.Prelude.{Result, Ok, Err, IfOk, is_ok}
+use Rattle.std.specs.Prelude.{Result, Ok, Err, IfErr, IfOk, IsTrue, is_ok}
 use Rattle.std.specs.Bool.{OnTrue}
 use Rattle.std.proofs.lemmas.Bool.{both_ways, cond-true, cond-false, eq-eqb, ne_eqb}
 use Rattle.atomic_table.specs.Seated.{TableId}
@@ -22,6 +22,7 @@ use Rattle.board_turn.specs.declared.board.Pass.{Pass}
 use Rattle.board_turn.specs.Plays.{at_place, moved_to}
 use Rattle.board_turn.specs.Ready.{SawFree, SitsAt, seat_in}
 use Rattle.board_turn.proofs.Readies.{Stood, steps_on}
+use Rattle.board_elect.specs.declared.masters.Taken.{Taken}
 use Rattle.board_elect.specs.Plays.{after_looking, after_shutting, is_counted, to_phase}
 
 -- nothing was seen before a load
@@ -86,3 +87,14 @@ module _ {B : Type 0} (table : TableId) (seat seat2 : Seat (Option (Slot B)) (Vi
       leads ∙ (ap (after_look at.limit at.harts at.hart.0 looks) f ∙ ap (λ q. after_look at.limit at.harts at.hart.0 (looks_in q) (is_counted at n)) (sym e)) in
       phase_on table seat seat2 at r t (after_looking n) p (ap is_transaction e) moved (ap (λ q. to_phase q at) (sym next))
       (subst (GoesOn at.limit at.harts at.hart.0) (sym leads) (looks_go_on at.limit at.harts at.hart.0 looks counts range.0 range.1))
+
+-- what both answers of a call leave
+pub peek_made : {B : Type 0} (r : Result ℕ Busy) (pass pass2 : Pass B) → IfOk r (λ word. (is_busy pass.stand.hart.0 pass.stand.phase word ≡ false) × (pass2.stand ≡ at_place (place.Take word) pass.stand))
+    → IfErr r (λ b. IsTrue (is_busy pass.stand.hart.0 pass.stand.phase b.seen) × (pass2.stand ≡ pass.stand)) → pass.stand.made ≡ pass2.stand.made
+peek_made (Ok word) pass pass2 f e = sym (ap (λ (s : Standing). s.made) f.1)
+peek_made (Err busy) pass pass2 f e = sym (ap (λ (s : Standing). s.made) e.1)
+
+pub try_made : {B : Type 0} (r : Result (Unit {0}) Taken) (pass pass2 : Pass B) → IfOk r (λ u. pass2.stand ≡ to_phase phase.Own pass.stand)
+    → IfErr r (λ t. (pass2.stand ≡ pass.stand) × (t.by.0 < pass.stand.harts)) → pass.stand.made ≡ pass2.stand.made
+try_made (Ok u) pass pass2 f e = sym (ap (λ (s : Standing). s.made) f)
+try_made (Err t) pass pass2 f e = sym (ap (λ (s : Standing). s.made) e.0)

@@ -51,10 +51,7 @@ pub fn look<B: Bus>(board: &Board<B>, pass: &mut Pass<B>, k: Hart) -> Mark
     match at.phase {
         Phase::Gather { looks } => {
             let word = OWN + k.0 as usize;
-            let seen = board
-                .table
-                .shared
-                .load::<plays::Look>(&mut pass.seat, word);
+            let seen = board.table.shared.load::<plays::Look>(&mut pass.seat, word);
             let counts = is_counted(at, seen);
             pass.stand.phase = after_look(at.limit, at.harts, at.hart, looks, counts);
             if counts {

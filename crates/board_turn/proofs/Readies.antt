@@ -183,8 +183,8 @@ pub all_notes : {B : Type 0} (words : List ℕ) (v : View B) → length words �
 all_notes words v size each =
     same_lists words (note_words v.notes) (omega (arith, size))
     (λ k d lt.
-        default_free words k d 0 lt
-        ∙ (each k (omega (arith, lt, size)) ∙ (note_of v.at.harts v.mask v.notes k ∙ sym (default_free (note_words v.notes) k d 0 (omega (arith, lt, size))))))
+    default_free words k d 0 lt
+    ∙ (each k (omega (arith, lt, size)) ∙ (note_of v.at.harts v.mask v.notes k ∙ sym (default_free (note_words v.notes) k d 0 (omega (arith, lt, size))))))
 
 -- the notes that were made words are those of what the bus tells
 pub words_of : (b : Told) (harts mask : ℕ) (notes : Notes) (words : List ℕ) → words ≡ note_words notes → b ≡ told_of harts mask notes → words ≡ note_words (notes_in b)

@@ -273,8 +273,8 @@ module _ {B : Type 0} (told_by : B → Told) (same : B → B → Type 0) where
         | inr ne ↦ ap holds ((r.seats k).spent (r.counts.left k (subst (λ u. u.left ≤ k) (sym view0) (omega (arith, one, ne))))).place
       ] in
       let free : holder_of (word s.words TURN) ≡ 0 = none_above (holder_of (word s.words TURN)) (λ h e.
-          both_ways (holds (view_of s.views h).at.place) (out h)
-          (ap holds (sym (shown-place r.rounds s.words s.views r.told h)) ∙ ((r.sound.turn h).holder ∙ eq-eqb (holder_of c.turn) (suc h) (ap holder_of (shown-turn r.rounds s.words s.views r.told) ∙ e)))) in
+      both_ways (holds (view_of s.views h).at.place) (out h)
+      (ap holds (sym (shown-place r.rounds s.words s.views r.told h)) ∙ ((r.sound.turn h).holder ∙ eq-eqb (holder_of c.turn) (suc h) (ap holder_of (shown-turn r.rounds s.words s.views r.told) ∙ e)))) in
       let home : IsHome told_by same r.start s.words r.told s.homes = r.home free in
       let done : is_finished (c.phase id) ≡ true = ap is_finished (phase_shown told_by same s r id v x) ∙ fin in
       record {

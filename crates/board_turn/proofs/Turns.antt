@@ -96,16 +96,16 @@ module _ {B : Type 0} (told_by : B → Told) (same : B → B → Type 0) where
         table.keeps,
         tt,
         over_words s (set s.views id w) (set s.words TURN turn) (reload s.words TURN 0 (turn_there s.words r.all_words))
-        (quiet told_by same s r id v w s.words live x (record {
-          size = r.all_words;
-          turn = refl;
-          notes = λ j lt. refl;
-          gates = λ k ne e. refl;
-          seat = record { live = live; hart = refl; limit = refl; harts = refl; start = refl; made = refl; left = refl };
-          gate = x.seat.gate;
-          out = peek_out (is_busy v.at.hart.0 v.at.phase turn) v.at.place turn (ap holds p);
-          sound = subst Sound (sym shows) (peek_keeps c id v.at.phase r.sound (place_shown told_by same s r id v x ∙ p));
-        })),
+            (quiet told_by same s r id v w s.words live x (record {
+              size = r.all_words;
+              turn = refl;
+              notes = λ j lt. refl;
+              gates = λ k ne e. refl;
+              seat = record { live = live; hart = refl; limit = refl; harts = refl; start = refl; made = refl; left = refl };
+              gate = x.seat.gate;
+              out = peek_out (is_busy v.at.hart.0 v.at.phase turn) v.at.place turn (ap holds p);
+              sound = subst Sound (sym shows) (peek_keeps c id v.at.phase r.sound (place_shown told_by same s r id v x ∙ p));
+            })),
         refl,
       )
 
@@ -227,8 +227,8 @@ module _ {B : Type 0} (told_by : B → Told) (same : B → B → Type 0) where
       let found : ℕ = word s.words TURN in
       let to : ℕ = turn_word (mask_of seen) (suc v.at.hart.0) in
       let F : Bool → Type 0 = λ b.
-          (w : View B) × (a : Act (Option (Slot B))) × Valid s.homes [] a × Ruled told_by same (stepped s TURN (either b to found) id [] w a)
-          × MatchBool b (TakesBus told_by same v (w, carried_after [] a)) (seat_with w (carried_after [] a) ≡ seat_with (moved_to (at_place place.Peek v.at) v) []) in
+      (w : View B) × (a : Act (Option (Slot B))) × Valid s.homes [] a × Ruled told_by same (stepped s TURN (either b to found) id [] w a)
+      × MatchBool b (TakesBus told_by same v (w, carried_after [] a)) (seat_with w (carried_after [] a) ≡ seat_with (moved_to (at_place place.Peek v.at) v) []) in
       elim (cases_Bool (found == seen)) [
         | inl y ↦ subst F (sym y)
             (let e : found ≡ seen = eqb-true found seen y in
@@ -249,12 +249,12 @@ module _ {B : Type 0} (told_by : B → Told) (same : B → B → Type 0) where
               },
             ))
         | inr n ↦ subst F (sym n) (
-            moved_to (at_place place.Peek v.at) v,
-            table.keeps,
-            tt,
-            miss s r id seen v live p x (eqb-false found seen n),
-            refl,
-          )
+          moved_to (at_place place.Peek v.at) v,
+          table.keeps,
+          tt,
+          miss s r id seen v live p x (eqb-false found seen n),
+          refl,
+        )
       ]
 
   -- the load of a note
@@ -270,7 +270,7 @@ module _ {B : Type 0} (told_by : B → Told) (same : B → B → Type 0) where
         table.keeps,
         tt,
         over_words s (set s.views id v) (set s.words (NOTES + j) (word s.words (NOTES + j))) (reload s.words (NOTES + j) 0 there)
-        (subst (λ vs. Ruled told_by same (record { words = s.words; homes = s.homes; views = vs })) (sym (set_again s.views id v at)) r),
+            (subst (λ vs. Ruled told_by same (record { words = s.words; homes = s.homes; views = vs })) (sym (set_again s.views id v at)) r),
         (
           refl,
           h.notes j lt ∙ (ap (λ b. get_or v.stored j (note b j)) h.tells ∙ ap (note_now v) (sym back)),

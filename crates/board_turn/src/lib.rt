@@ -27,8 +27,8 @@ mod words;
 
 pub use board::{Board, Busy, Held, Key, Pass, Rule, Seated};
 pub use laws::{
-    give_is_tick, join_shows_run, miss_is_tick, peek_is_tick, split_shows_nothing, store_shows_nothing,
-    take_is_tick,
+    give_is_tick, join_shows_run, miss_is_tick, peek_is_tick, split_shows_nothing,
+    store_shows_nothing, take_is_tick,
 };
 pub use view::{Slot, Standing, View};
 pub use words::{GATE, MASTER, NOTES, OWN, TURN, WORDS};

@@ -11,10 +11,7 @@ use deck_core::{Bus, NOTE_WORDS};
 
 impl<B: Bus> Board<B> {
     /// Loads all notes. They are what the seat's view keeps.
-    pub(crate) fn load_notes(
-        &self,
-        seat: &mut Seat<Option<Slot<B>>, View<B>>,
-    ) -> [u64; NOTE_WORDS]
+    pub(crate) fn load_notes(&self, seat: &mut Seat<Option<Slot<B>>, View<B>>) -> [u64; NOTE_WORDS]
         requires table { seat.old.table_id ≡ self.now.table.shared.table_id }
         requires live { seat.old.me.0.live ≡ true }
         requires holder { holds seat.old.me.0.at.place ≡ true }

@@ -87,10 +87,7 @@ impl<B: Bus> Board<B> {
         ensures start { start_of pass.new ≡ start_of pass.old }
         ensures next { IsFresh self.now.table.shared.table_id (start_of pass.old) pass.old.stand.made pass.old.stand.harts pass.old.stand.limit 0 result }
     {
-        let seat = self
-            .table
-            .shared
-            .split_seat::<SplitSeat>(&mut pass.seat);
+        let seat = self.table.shared.split_seat::<SplitSeat>(&mut pass.seat);
         let at = pass.stand;
         pass.stand.made += 1;
         Pass {

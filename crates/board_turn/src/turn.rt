@@ -38,10 +38,7 @@ impl<B: Bus> Board<B> {
         ensures ready { IsReady self.now.table.shared.table_id pass.new }
         ensures start { start_of pass.new ≡ start_of pass.old }
     {
-        let found = self
-            .table
-            .shared
-            .load::<PeekTurn>(&mut pass.seat, TURN);
+        let found = self.table.shared.load::<PeekTurn>(&mut pass.seat, TURN);
         if is_busy(pass.stand.hart, pass.stand.phase, found) {
             return Err(Busy { seen: found });
         }

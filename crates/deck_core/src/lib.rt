@@ -38,10 +38,10 @@ pub use laws::facts::{
 };
 pub use laws::keeps::{
     called_keeps, close_keeps, drop_keeps, enter_keeps, every_plan_keeps, every_tick_keeps,
-    finished_keeps, finished_leaves, free_keeps, gather_keeps, give_keeps, lines_keeps, mark_keeps, open_gate_keeps,
-    own_keeps, parked_keeps, pass_step_keeps, peek_keeps, plant_keeps, plant_step_keeps,
-    pull_keeps, pull_step_keeps, run_keeps, send_keeps, shut_keeps, take_keeps, unmark_keeps,
-    want_keeps, wish_keeps,
+    finished_keeps, finished_leaves, free_keeps, gather_keeps, give_keeps, lines_keeps, mark_keeps,
+    open_gate_keeps, own_keeps, parked_keeps, pass_step_keeps, peek_keeps, plant_keeps,
+    plant_step_keeps, pull_keeps, pull_step_keeps, run_keeps, send_keeps, shut_keeps, take_keeps,
+    unmark_keeps, want_keeps, wish_keeps,
 };
 pub use laws::ranges::{answers_go_on, can_go_on_now, gate_goes_on, looks_go_on, shut_goes_on};
 pub use laws::runs::{

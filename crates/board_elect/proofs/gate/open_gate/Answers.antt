@@ -10,5 +10,5 @@ fetch_add-requires g c =
     let place = ap (λ a. a.place) r.view ∙ r.outside (ap is_transaction c.requires.phase) in (
       r.of_table,
       omega (arith, c.args.board.now.all_words, r.below, r.few),
-      open_allowed g.B.Bus.told g.B.Bus.SameOrigin _ _  c.args.pass.now.seat.me  r.live place (ap (λ a. a.phase) r.view ∙ c.requires.phase),
+      open_allowed g.B.Bus.told g.B.Bus.SameOrigin _ _ c.args.pass.now.seat.me r.live place (ap (λ a. a.phase) r.view ∙ c.requires.phase),
     )

@@ -11,5 +11,5 @@ load-gate-requires g c =
     let place = ap (λ a. a.place) r.view ∙ r.outside (sees_out c.args.pass.now.stand.phase c.requires.phase) in (
       r.of_table,
       omega (arith, c.args.board.now.all_words, r.below, r.few),
-      see_allowed g.B.Bus.told g.B.Bus.SameOrigin _ _  c.args.pass.now.seat.me  r.live place (ap (λ a. sees_gate a.phase) r.view ∙ c.requires.phase),
+      see_allowed g.B.Bus.told g.B.Bus.SameOrigin _ _ c.args.pass.now.seat.me r.live place (ap (λ a. sees_gate a.phase) r.view ∙ c.requires.phase),
     )
