@@ -21,3 +21,4 @@ pub mod GoneTrap
 pub mod Late
 pub mod NoteParts
 pub mod PhaseTicks
+pub mod Joined

@@ -18,7 +18,7 @@
 //! exactly the ticks of the selected hart. Nothing is claimed of progress: that a gathering finds every hart, or that a
 //! hart ever gets the turn.
 //!
-//! It stands on `mach_base`. No crate stands on it yet.
+//! It stands on `mach_base`. `hart_prog` stands on it, and `board_turn`, where the words are shared by threads.
 #![tactic(auto)]
 
 mod contract;
@@ -29,19 +29,19 @@ mod plain;
 mod ticks;
 
 pub use contract::bus::Bus;
-pub use contract::calls::call;
+pub use contract::calls::{call, is_idle};
 pub use decks::deck::Deck;
 pub use decks::flat::Flat;
 pub use laws::facts::{
     call_is_allowed, gate_is_bounded, gone_trap_drops, one_master, opening_is_sound, runs_unmasked,
-    sessions_never_overlap,
+    sessions_never_overlap, shut_before,
 };
 pub use laws::keeps::{
     called_keeps, close_keeps, drop_keeps, enter_keeps, every_plan_keeps, every_tick_keeps,
-    finished_keeps, free_keeps, gather_keeps, give_keeps, lines_keeps, mark_keeps, open_gate_keeps,
-    own_keeps, parked_keeps, pass_step_keeps, peek_keeps, plant_keeps, plant_step_keeps,
-    pull_keeps, pull_step_keeps, run_keeps, send_keeps, shut_keeps, take_keeps, unmark_keeps,
-    want_keeps, wish_keeps,
+    finished_keeps, finished_leaves, free_keeps, gather_keeps, give_keeps, lines_keeps, mark_keeps,
+    open_gate_keeps, own_keeps, parked_keeps, pass_step_keeps, peek_keeps, plant_keeps,
+    plant_step_keeps, pull_keeps, pull_step_keeps, run_keeps, send_keeps, shut_keeps, take_keeps,
+    unmark_keeps, want_keeps, wish_keeps,
 };
 pub use laws::ranges::{answers_go_on, can_go_on_now, gate_goes_on, looks_go_on, shut_goes_on};
 pub use laws::runs::{

@@ -1,4 +1,3 @@
 //! Whole sessions of two harts, by plans on a small bus; a bus whose calls are a function.
 mod ending_bus;
-mod small_bus;
 mod time_lines;

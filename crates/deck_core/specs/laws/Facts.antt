@@ -6,10 +6,12 @@ use Rattle.deck_core.specs.Invariant.{Sound}
 use Rattle.deck_core.specs.contract.Allowed.{is_allowed}
 use Rattle.deck_core.specs.contract.Told.{IsOpening, Told}
 use Rattle.deck_core.specs.ticks.Configuration.{Configuration, opening}
-use Rattle.deck_core.specs.ticks.NextPhase.{act_of}
-use Rattle.deck_core.specs.ticks.Phases.{is_masters}
+use Rattle.deck_core.specs.ticks.NextPhase.{act_of, after_answer, is_transaction}
+use Rattle.deck_core.specs.ticks.Phases.{is_masters, is_shut}
 use Rattle.deck_core.specs.ticks.Tick.{Ticks, makes_call}
+use Rattle.deck_core.specs.declared.plain.phase.Phase.{Phase}
 use Rattle.deck_core.specs.declared.plain.phase.Phase.TheVariants as phase
+use Rattle.deck_core.specs.declared.plain.act.Answer.{Answer}
 use Rattle.deck_core.specs.declared.plain.phase.Kept.{Kept}
 use Rattle.deck_core.specs.declared.plain.notes.Sitting.{Sitting}
 
@@ -40,3 +42,7 @@ GoneTrapDrops = (c : Configuration) (h : ℕ) (next : Configuration) → Sound c
 -- the gate's number stays small
 abbrev pub GateIsBounded : Type 0
 GateIsBounded = (c : Configuration) → Sound c → c.gate ≤ 2 * MOST_LINES + 4
+
+-- where the gate is shut in the phase after an answer, it was shut in the one before
+abbrev pub ShutBefore : Type 0
+ShutBefore = (harts h : ℕ) (p : Phase) (a : Answer) → is_transaction p ≡ true → is_shut (after_answer harts h p a) ≡ true → is_shut p ≡ true

@@ -5,7 +5,7 @@ use Rattle.deck_core.specs.contract.Calls.{HonestCall}
 use Rattle.deck_core.specs.contract.Told.{Told}
 use Rattle.deck_core.specs.ticks.Configuration.{Configuration}
 use Rattle.deck_core.specs.ticks.NextPhase.{act_of, after_answer}
-use Rattle.deck_core.specs.ticks.Tick.{Ticks, TicksAll, gives, makes_call, peeks, takes, tick}
+use Rattle.deck_core.specs.ticks.Tick.{Ticks, TicksAll, enters, gives, makes_call, peeks, takes, tick}
 use Rattle.deck_core.specs.declared.plain.phase.Phase.{Phase}
 use Rattle.deck_core.specs.declared.plain.phase.Phase.TheVariants as phase
 use Rattle.deck_core.specs.declared.plain.phase.Place.TheVariants as place
@@ -104,3 +104,7 @@ EveryTickKeeps = (c : Configuration) (h : ℕ) (next : Configuration) → Sound 
 -- and so does each list of ticks
 abbrev pub EveryPlanKeeps : Type 0
 EveryPlanKeeps = (plan : List ℕ) (c last : Configuration) → Sound c → TicksAll plan c last → Sound last
+
+-- a hart that has seen an ending may count as in Run again: it has the same own word, and no mark
+abbrev pub FinishedLeaves : Type 0
+FinishedLeaves = (c : Configuration) (h : ℕ) → Sound c → c.phase h ≡ phase.Finished → Sound (enters h phase.Run c)

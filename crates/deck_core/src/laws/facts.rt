@@ -1,5 +1,5 @@
 //! What follows from the invariant. None of these functions does anything.
-ghost use Rattle.deck_core.specs.laws.Facts.{OpeningIsSound, CallIsAllowed, OneMaster, RunsUnmasked, SessionsNeverOverlap, GoneTrapDrops, GateIsBounded};
+ghost use Rattle.deck_core.specs.laws.Facts.{OpeningIsSound, CallIsAllowed, OneMaster, RunsUnmasked, SessionsNeverOverlap, GoneTrapDrops, GateIsBounded, ShutBefore};
 
 /// The opening configuration, over an opening bus, meets the invariant.
 #[tactic(auto, using(crate::proofs::Opening::opening_is_sound))]
@@ -40,4 +40,10 @@ pub fn gone_trap_drops()
 #[tactic(auto, using(crate::proofs::Conditions::gate_is_bounded))]
 pub fn gate_is_bounded()
     ensures { GateIsBounded }
+{}
+
+/// Where the gate is shut in the phase after an answer, it was shut in the one before.
+#[tactic(auto, using(crate::proofs::Joined::shut_before))]
+pub fn shut_before()
+    ensures { ShutBefore }
 {}

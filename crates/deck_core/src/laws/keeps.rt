@@ -1,6 +1,6 @@
 //! The laws of the protocol over whole configurations: each tick keeps the invariant, phase by phase. A layer above calls
 //! the one of its step, or cites the statement of `specs/Laws.antt`. None of these functions does anything.
-ghost use Rattle.deck_core.specs.laws.Keeps.{PeekKeeps, TakeKeeps, GiveKeeps, RunKeeps, CalledKeeps, MarkKeeps, ParkedKeeps, UnmarkKeeps, WishKeeps, WantKeeps, OwnKeeps, ShutKeeps, SendKeeps, GatherKeeps, EnterKeeps, PullKeeps, LinesKeeps, PlantStepKeeps, PassStepKeeps, PullStepKeeps, PlantKeeps, CloseKeeps, OpenGateKeeps, DropKeeps, FreeKeeps, FinishedKeeps, EveryTickKeeps, EveryPlanKeeps};
+ghost use Rattle.deck_core.specs.laws.Keeps.{PeekKeeps, TakeKeeps, GiveKeeps, FinishedLeaves, RunKeeps, CalledKeeps, MarkKeeps, ParkedKeeps, UnmarkKeeps, WishKeeps, WantKeeps, OwnKeeps, ShutKeeps, SendKeeps, GatherKeeps, EnterKeeps, PullKeeps, LinesKeeps, PlantStepKeeps, PassStepKeeps, PullStepKeeps, PlantKeeps, CloseKeeps, OpenGateKeeps, DropKeeps, FreeKeeps, FinishedKeeps, EveryTickKeeps, EveryPlanKeeps};
 
 /// A hart's step outside a session, by any hart and with any honest bus, keeps the invariant.
 #[tactic(auto, using(crate::proofs::RunPhase::run_keeps))]
@@ -151,4 +151,9 @@ pub fn take_keeps()
 /// The call of a phase keeps it, and the giving back of the turn with it.
 pub fn give_keeps()
     ensures { GiveKeeps }
+{}
+
+/// A hart that has seen an ending may count as in `Run` again.
+pub fn finished_leaves()
+    ensures { FinishedLeaves }
 {}

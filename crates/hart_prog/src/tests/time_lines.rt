@@ -4,12 +4,12 @@ ghost use Rattle.deck_core.specs.contract.Told.{IsOpening};
 ghost use Rattle.hart_prog.specs.Plan.{AllStand};
 
 use super::ending_bus::{EndingBus, ending_bus};
-use super::small_bus::{STEP, small_bus};
 use crate::{Prog, Progress, programs, run_plan};
 use deck_core::{Bus, Deck, Flat, Kept, Looks, Phase, Then, runs_are_exact};
 use mach_base::{Ending, Hart, OutOfMemory};
 use std::alloc::Global;
 use std::test::Fail;
+use test_bus::{STEP, small_bus};
 
 /// A hart, so many of its ticks, and the phases of hart 0 and of hart 1 after them.
 type Row = (u8, u32, Phase, Phase);

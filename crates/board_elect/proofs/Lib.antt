@@ -1,0 +1,3 @@
+pub mod Elects
+pub mod Rights
+pub mod Standings

@@ -1,0 +1,14 @@
+use Rattle.std.proofs.Common.{◌≡◌, suc, ◌∙◌, ap, arith, sym}
+use Rattle.deck_core.specs.decks.Seat.{clears, sees_gate}
+use Rattle.deck_core.specs.ticks.NextPhase.{is_transaction}
+use Rattle.board_elect.proofs.Rights.{free_allowed}
+use Rattle.board_elect.proofs.masters.free.Goals as goal
+
+pub store-requires : goal.store-requires
+store-requires g c =
+    let r = c.requires.ready in
+    let place = ap (λ a. a.place) r.view ∙ r.outside (ap is_transaction c.requires.phase) in (
+      r.of_table,
+      omega (arith, c.args.board.now.all_words, r.below, r.few),
+      free_allowed g.B.Bus.told g.B.Bus.SameOrigin _ _ c.args.pass.now.seat.me r.live place (ap (λ a. a.phase) r.view ∙ c.requires.phase),
+    )

@@ -1,0 +1,5 @@
+pub mod Shown
+pub mod Rule
+pub mod Plays
+pub mod Ready
+pub mod Steps
