@@ -17,6 +17,7 @@ mod gate;
 mod laws;
 mod masters;
 mod plays;
+mod threads;
 
 pub use deck::BoardSeat;
 pub use found::Mark;
@@ -26,3 +27,7 @@ pub use laws::{
     see_gate_is_tick, shut_is_tick, try_is_tick, want_is_tick,
 };
 pub use masters::{Taken, clear, free, try_master, want};
+pub use threads::seat_is_send;
+
+#[cfg(test)]
+mod tests;

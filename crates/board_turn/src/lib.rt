@@ -21,6 +21,7 @@ mod plays;
 mod seats;
 #[cfg(test)]
 mod tests;
+mod threads;
 mod turn;
 mod view;
 mod words;
@@ -30,5 +31,6 @@ pub use laws::{
     give_is_tick, join_shows_run, miss_is_tick, peek_is_tick, split_shows_nothing,
     store_shows_nothing, take_is_tick,
 };
+pub use threads::{board_is_shared, pass_is_send};
 pub use view::{Slot, Standing, View};
 pub use words::{GATE, MASTER, NOTES, OWN, TURN, WORDS};
