@@ -1,0 +1,4 @@
+pub mod Inner
+pub mod InnerFacts
+pub mod Origin
+pub mod Core
