@@ -9,11 +9,11 @@ use Rattle.plant_mach.specs.Entries.{Made, makes}
 use Rattle.plant_mach.specs.Reading.{IsReading, reading, transcript_of}
 use Rattle.bus_core.specs.declared.outer.Core.{Core}
 use Rattle.bus_core.specs.Origin.{Origin, atomic_start_of, IsFrom}
-use Rattle.bus_core.specs.Inner as inner
+use Rattle.bus_core.specs.Inner as inside
 
 -- the machine
 abbrev pub machine_of : Core → PlantedMachine
-machine_of c = inner.machine_of c.inner
+machine_of c = inside.machine_of c.inner
 
 -- the entries that were made
 abbrev pub entries_of : Core → List Entry

@@ -1,4 +1,4 @@
+pub mod Seated
 pub mod Inner
-pub mod InnerFacts
 pub mod Origin
 pub mod Core

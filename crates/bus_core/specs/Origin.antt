@@ -2,7 +2,7 @@
 use Rattle.std.specs.Prelude.{◌≡◌, ℕ, Bool, false, List, Some}
 use Rattle.mach_base.specs.Machine.{Symbol}
 use Rattle.mach_base.specs.declared.event.Entry.{Entry}
-use Rattle.img_text.specs.Image.{ImageRecord}
+use Rattle.img_text.specs.Image.{ImageRecord, IsImage}
 use Rattle.atom_mach.specs.State.{State, start_state}
 use Rattle.plant_mach.specs.Machine.{PlantedMachine, planted_start}
 use Rattle.plant_mach.specs.Entries.{Made, made_by}
@@ -23,8 +23,9 @@ start_of o = planted_start o.image o.symbols o.lines o.harts o.limit
 abbrev pub atomic_start_of : Origin → State
 atomic_start_of o = start_state o.image o.symbols o.lines o.harts o.limit
 
--- The entries are a legal list from the origin, and unless the core is lost they print this text and lead to this machine.
+-- The entries are a legal list from the origin, whose image is right, and unless the core is lost they print this text and lead to this machine.
 pub record IsFrom (o : Origin) (entries : List Entry) (text : List ℕ) (p : PlantedMachine) (lost : Bool) : Type 0 where
+  pub image : IsImage o.image
   pub last : Made
   pub legal : made_by (start_of o) entries ≡ Some last
   pub now : lost ≡ false → last ≡ record { text = text; next = p }

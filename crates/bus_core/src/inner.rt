@@ -3,8 +3,7 @@
 ghost use Rattle.std.specs.Prelude.{◌≡◌, ◌+◌, ◌<◌, ◌≤◌, length, vec_len};
 ghost use Rattle.mach_base.specs.declared.limits.TheConstants.{MOST_HARTS, MOST_LINES, MOST_STEPS};
 ghost use Rattle.plant_mach.specs.Order.{IsSeated};
-ghost use Rattle.bus_core.specs.Inner.{owed, IsGathered};
-ghost use Rattle.bus_core.specs.InnerFacts.{IsSeated-prop, IsGathered-prop};
+ghost use Rattle.bus_core.specs.Seated.{owed, IsGathered, IsSeated-prop, IsGathered-prop};
 
 mod beginning;
 mod lines;

@@ -1,5 +1,5 @@
 //! The core from the outside: its start, the entries that it takes, and what it tells.
-ghost use Rattle.bus_core.specs.Inner.{machine_of};
+ghost use Rattle.bus_core.specs.Inner.{machine_of as inner_machine};
 ghost use Rattle.bus_core.specs.Origin.{HasOrigin};
 
 use crate::inner::Inner;
@@ -9,7 +9,7 @@ use bus_plant::Planted;
 use img_text::{Image, boot};
 use kdb_cmd::Kdb;
 use mach_base::{Ending, Entry, OutOfMemory, Packed};
-use plant_mach::{entries_keep_order, legal_lists_are_runs, lists_join, starts_are_orderly};
+use plant_mach::{entries_keep, entries_keep_order, legal_lists_are_runs, lists_join, starts_are_orderly};
 use std::alloc::Global;
 use sym_map::Symbols;
 
@@ -28,18 +28,18 @@ pub struct Core {
     journal: Packed,
     transcript: Vec<u8>,
     lost: bool,
-    ghost made: { ∥ HasOrigin journal.entries transcript.items (machine_of inner) lost ∥₁ },
+    ghost made: { ∥ HasOrigin journal.entries transcript.items (inner_machine inner) lost ∥₁ },
 }
 
 impl Core {
-    ghost use Rattle.std.specs.Prelude.{◌≡◌, ◌≢◌, ◌≤◌, ◌↔◌, [], true, false, Err, None, IfOk, OnOk, OnErr};
+    ghost use Rattle.std.specs.Prelude.{◌≡◌, ◌≤◌, ◌↔◌, [], true, false, Err, None, IfOk, OnOk, OnErr};
     ghost use Rattle.mach_base.specs.declared.limits.TheConstants.{MOST_HARTS, MOST_STEPS};
     ghost use Rattle.plant_mach.specs.Machine.{planted_start};
     ghost use Rattle.plant_mach.specs.Entries.{makes};
     ghost use Rattle.plant_mach.specs.Order.{IsOrderly};
     ghost use Rattle.bus_core.specs.declared.outer.ApplyFault.TheVariants.{NotLegal, OutOfMemory as NoMemory};
-    ghost use Rattle.bus_core.specs.Inner.{is_quiet};
-    ghost use Rattle.bus_core.specs.Origin.{Origin};
+    ghost use Rattle.bus_core.specs.Inner.{is_quiet, is_legal};
+    ghost use Rattle.bus_core.specs.Origin.{Origin, HasOrigin};
     ghost use Rattle.bus_core.specs.Core.{machine_of, entries_of, text_of, ComesFrom, IsSame, Applied, SameOrigin, IsRunOf};
 
     /// The machine at the start, with this many harts, 1 to 16: memory and contexts from the image, the whole script
@@ -62,6 +62,7 @@ impl Core {
         ensures lost { IfOk result (λ core. core.lost ≡ false) }
         ensures origin { IfOk result (λ core. ComesFrom (record { image = image.now; symbols = names; lines = script; harts = harts; limit = limit }) core) }
     {
+        let _segments = image.segments();
         let inner = Inner::start(alloc, image, names, script, harts, limit)?;
         let journal = Packed::with_room(alloc, 0)?;
         Ok(Core {
@@ -113,7 +114,7 @@ impl Core {
     /// Makes a legal entry that prints no prompt.
     fn apply_quiet(&mut self, entry: Entry) -> Result<(), OutOfMemory>
         requires here { self.old.lost ≡ false }
-        requires legal { makes (machine_of self.old) entry ≢ None }
+        requires legal { is_legal (machine_of self.old) entry ≡ true }
         requires quiet { is_quiet entry ≡ true }
         ensures made { OnOk result (Applied self.old entry self.new) }
         ensures unchanged { OnErr result (IsSame self.old self.new) }
@@ -121,7 +122,9 @@ impl Core {
         ensures origin { SameOrigin self.old self.new }
     {
         lists_join();
+        entries_keep();
         self.keeps_order();
+        self.inner.keeps_packable(entry);
         self.transcript.reserve(BANNER_BYTES)?;
         self.journal.try_push(entry)?;
         self.inner.make_quiet(&mut self.transcript, entry);
@@ -131,13 +134,15 @@ impl Core {
     /// Makes a legal entry that prints a prompt. After want of memory the core is lost.
     fn apply_spoken(&mut self, entry: Entry) -> Result<(), OutOfMemory>
         requires here { self.old.lost ≡ false }
-        requires legal { makes (machine_of self.old) entry ≢ None }
+        requires legal { is_legal (machine_of self.old) entry ≡ true }
         requires spoken { is_quiet entry ≡ false }
         ensures made { OnOk result (Applied self.old entry self.new) }
         ensures lost { OnErr result (self.new.lost ≡ true) }
         ensures origin { SameOrigin self.old self.new }
     {
         lists_join();
+        entries_keep();
+        self.inner.keeps_packable(entry);
         self.lost = true;
         self.inner.make_spoken(&mut self.transcript, entry)?;
         self.journal.try_push(entry)?;
@@ -148,7 +153,7 @@ impl Core {
     /// There is an origin of the core, and from each one of the core the journal reads as a run of the atomic machine with
     /// the core's transcript. The call does nothing; its contract says so to callers.
     pub fn reads_as_a_run(&self)
-        ensures origin { ∥ (o : Origin) × ComesFrom o self.now ∥₁ }
+        ensures origin { ∥ HasOrigin (entries_of self.now) (text_of self.now) (machine_of self.now) self.now.lost ∥₁ }
         ensures run { (o : Origin) → ComesFrom o self.now → IsRunOf o self.now }
     {
         legal_lists_are_runs();

@@ -11,17 +11,14 @@ use mach_base::{Ending, Hart, OutOfMemory, Reason, all_but, push_bytes, push_new
 const NUMBER_BYTES: usize = 20;
 
 impl Inner {
-    ghost use Rattle.std.specs.Prelude.{◌≡◌, ◌+◌, ◌<◌, ◌++◌, Some, IfOk, OnOk, true, drop, length, vec_len};
+    ghost use Rattle.std.specs.Prelude.{◌≡◌, ◌+◌, ◌<◌, ◌++◌, Some, IfOk, OnOk, true, length, vec_len};
     ghost use Rattle.mach_base.specs.Texts.{newline};
-    ghost use Rattle.mach_base.specs.Masks.{all_but};
     ghost use Rattle.mach_base.specs.declared.event.Entry.TheVariants.{Line, Off};
     ghost use Rattle.mach_base.specs.declared.event.Ending.TheVariants.{ScriptEnd};
-    ghost use Rattle.kdb_cmd.specs.Line.{line_said};
-    ghost use Rattle.atom_mach.specs.State.{hart_count};
     ghost use Rattle.atom_mach.specs.Texts.{prompt_template};
-    ghost use Rattle.atom_mach.specs.Session.{with_read, prompt_text, with_seen};
-    ghost use Rattle.plant_mach.specs.Entries.{stage_after, may, effect};
-    ghost use Rattle.bus_core.specs.Inner.{machine_of, next_line, next_effect, stage_of_go, stage_left, IsDone};
+    ghost use Rattle.atom_mach.specs.Session.{prompt_text};
+    ghost use Rattle.plant_mach.specs.Entries.{line_made, may, effect};
+    ghost use Rattle.bus_core.specs.Inner.{machine_of, next_line, next_answer, read_on, next_effect, stage_of_go, stage_left, IsDone};
 
     /// The length of the template of the prompt.
     fn prompt_bytes(&self) -> usize
@@ -57,9 +54,11 @@ impl Inner {
     fn read_line(&mut self, sitting: Sitting) -> Result<Said, OutOfMemory>
         requires left { self.old.read < length self.old.script }
         requires session { self.old.session ≡ Some sitting }
-        ensures said { IfOk result (λ said. line_said (all_but (hart_count (machine_of self.old).machine) sitting.late) sitting.master.0 (next_line self.old) (machine_of self.old).machine.seen ≡ record { output = said.text; state = (machine_of self.new).machine.seen; outcome = said.outcome }) }
-        ensures next { OnOk result (machine_of self.new ≡ record (machine_of self.old) { machine = with_seen (with_read (machine_of self.old).machine (drop (self.old.read + 1) self.old.script)) (machine_of self.new).machine.seen }) }
+        ensures said { IfOk result (λ said. next_answer self.old sitting ≡ record { output = said.text; state = (machine_of self.new).machine.seen; outcome = said.outcome }) }
+        ensures next { OnOk result (machine_of self.new ≡ read_on self.old (machine_of self.new).machine.seen) }
         ensures read { OnOk result (self.new.read ≡ self.old.read + 1) }
+        ensures harts { vec_len self.new.contexts ≡ vec_len self.old.contexts }
+        ensures limit { self.new.limit ≡ self.old.limit }
     {
         let gathered = all_but(self.harts(), sitting.late);
         match run_line(
@@ -107,8 +106,10 @@ impl Inner {
     fn line(&mut self, out: &mut Vec<u8>, sitting: Sitting) -> Result<(), OutOfMemory>
         requires left { self.old.read < length self.old.script }
         requires session { self.old.session ≡ Some sitting }
-        ensures text { OnOk result (out.new.items ≡ out.old.items ++ (next_effect self.old sitting.master sitting.late).text) }
-        ensures next { OnOk result (machine_of self.new ≡ record (machine_of self.old) { machine = (next_effect self.old sitting.master sitting.late).machine; session = Some (record sitting { stage = stage_after (next_effect self.old sitting.master sitting.late).left }) }) }
+        ensures text { OnOk result (out.new.items ≡ out.old.items ++ (next_effect self.old sitting).text) }
+        ensures next { OnOk result (machine_of self.new ≡ (line_made (machine_of self.old) sitting (next_effect self.old sitting)).next) }
+        ensures harts { vec_len self.new.contexts ≡ vec_len self.old.contexts }
+        ensures limit { self.new.limit ≡ self.old.limit }
     {
         self.push_echo(out)?;
         let said = self.read_line(sitting)?;
@@ -123,6 +124,8 @@ impl Inner {
     pub fn make_line(&mut self, out: &mut Vec<u8>, hart: Hart) -> Result<(), OutOfMemory>
         requires legal { may (machine_of self.old) (Line hart) ≡ true }
         ensures done { OnOk result (IsDone (machine_of self.old) (Line hart) out.old.items out.new.items (machine_of self.new)) }
+        ensures harts { vec_len self.new.contexts ≡ vec_len self.old.contexts }
+        ensures limit { self.new.limit ≡ self.old.limit }
     {
         let Some(sitting) = self.session else {
             unreachable!()
@@ -135,6 +138,8 @@ impl Inner {
     #[tactic(auto, unfolding(plant_mach::specs::Entries::effect))]
     pub fn make_script_end(&mut self, out: &mut Vec<u8>) -> Result<(), OutOfMemory>
         ensures done { OnOk result (IsDone (machine_of self.old) (Off ScriptEnd) out.old.items out.new.items (machine_of self.new)) }
+        ensures harts { vec_len self.new.contexts ≡ vec_len self.old.contexts }
+        ensures limit { self.new.limit ≡ self.old.limit }
     {
         out.reserve(self.prompt_bytes() + NUMBER_BYTES)?;
         put_last_prompt(out, &self.kdb.env, self.kdb.current);

@@ -7,10 +7,21 @@ use mach_base::{Ending, Entry, OutOfMemory};
 
 impl Inner {
     ghost use Rattle.std.specs.Prelude.{◌≡◌, ◌+◌, ◌≤◌, OnOk, true, false, vec_len, vec_capacity};
+    ghost use Rattle.mach_base.specs.Packed.{IsPackable};
     ghost use Rattle.atom_mach.specs.declared.texts.TheConstants.{BANNER_BYTES};
     ghost use Rattle.plant_mach.specs.Entries.{may};
     ghost use Rattle.plant_mach.specs.Order.{IsOrderly};
     ghost use Rattle.bus_core.specs.Inner.{machine_of, is_quiet, IsDone};
+
+    /// A legal entry has bytes in a packed list. The call does nothing; its contract says so to callers.
+    pub fn keeps_packable(&self, entry: Entry)
+        requires legal { may (machine_of self.now) entry ≡ true }
+        ensures { IsPackable entry }
+    {
+        self.memory.keeps_words();
+        self.kdb.breaks.keeps_limits();
+        let _entry = entry;
+    }
 
     /// Makes a legal entry that prints no prompt; what it prints goes into room that is there.
     #[tactic(auto, using(crate::proofs::Done::silent))]
@@ -42,6 +53,8 @@ impl Inner {
         requires legal { may (machine_of self.old) entry ≡ true }
         requires spoken { is_quiet entry ≡ false }
         ensures done { OnOk result (IsDone (machine_of self.old) entry out.old.items out.new.items (machine_of self.new)) }
+        ensures harts { vec_len self.new.contexts ≡ vec_len self.old.contexts }
+        ensures limit { self.new.limit ≡ self.old.limit }
     {
         match entry {
             Entry::Line(hart) => self.make_line(out, hart),

@@ -17,7 +17,8 @@ impl Inner {
     ghost use Rattle.atom_mach.specs.State.{context_at};
     ghost use Rattle.atom_mach.specs.Traps.{fault_of, executed, console_text};
     ghost use Rattle.plant_mach.specs.Entries.{after_step, may, effect};
-    ghost use Rattle.bus_core.specs.Inner.{machine_of, owed, IsDone};
+    ghost use Rattle.bus_core.specs.Inner.{machine_of, IsDone};
+    ghost use Rattle.bus_core.specs.Seated.{owed};
 
     /// Executes the hart's instruction. The answer is the byte that goes to the console, if any.
     #[tactic(auto, unfolding(atom_mach::specs::Traps::executed, atom_mach::specs::Traps::fault_of, atom_mach::specs::Traps::console_text))]

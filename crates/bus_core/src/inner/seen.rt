@@ -11,7 +11,7 @@ use mach_base::{Fault, Hart, PLACES, Peek, Reason, has_bit, mask_with};
 use rv_table::EBREAK;
 
 impl Inner {
-    ghost use Rattle.std.specs.Prelude.{◌≡◌, ◌<◌, ◌≤◌, ◌^◌, is_some, length, vec_len, if◌then◌else◌};
+    ghost use Rattle.std.specs.Prelude.{◌≡◌, ◌<◌, ◌≤◌, ◌^◌, is_some, nat_lt, length, vec_len, if◌then◌else◌};
     ghost use Rattle.mach_base.specs.Masks.{mask_with};
     ghost use Rattle.mach_base.specs.declared.limits.TheConstants.{MOST_HARTS};
     ghost use Rattle.atom_mach.specs.State.{context_at};
@@ -62,6 +62,13 @@ impl Inner {
             None => false,
             Some(sitting) => !has_bit(sitting.late, hart.0),
         }
+    }
+
+    /// Whether the limit of steps isn't reached.
+    pub fn has_steps(&self) -> bool
+        ensures { result ≡ nat_lt self.now.steps self.now.limit }
+    {
+        self.steps < self.limit
     }
 
     /// Whether every hart is halted.
@@ -156,6 +163,7 @@ impl Inner {
     }
 
     /// The mask of the enabled places.
+    #[tactic(auto, using(crate::proofs::Planting::enabled_more))]
     pub fn enabled(&self) -> u64
         ensures { result ≡ enabled_of (machine_of self.now) }
     {

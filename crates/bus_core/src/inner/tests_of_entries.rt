@@ -7,11 +7,11 @@ use deck_core::Stage;
 use mach_base::{Ending, Entry, Hart, Reason, has_bit};
 
 impl Inner {
-    ghost use Rattle.std.specs.Prelude.{◌≡◌, ◌<◌, ◌&&◌, vec_len, is_none};
+    ghost use Rattle.std.specs.Prelude.{◌≡◌, ◌<◌, ◌&&◌, vec_len};
     ghost use Rattle.deck_core.specs.contract.Allowed.{in_session, is_of, is_lines, is_pass, is_leaving, is_address};
     ghost use Rattle.mach_base.specs.declared.event.Entry.TheVariants.{Open, Pull, Line, PlantStep, PullStep, Plant, Close, Off};
     ghost use Rattle.plant_mach.specs.Entries.{can_sit, reason_again, reason_now, step_address, may_pull_step, may_end, may};
-    ghost use Rattle.bus_core.specs.Inner.{machine_of};
+    ghost use Rattle.bus_core.specs.Inner.{machine_of, is_legal};
 
     /// Whether the harts can be the master and the late ones of a session.
     fn can_sit(&self, master: Hart, late: u64) -> bool
@@ -214,7 +214,7 @@ impl Inner {
 
     /// Whether the entry is legal.
     pub fn legal(&self, entry: Entry) -> bool
-        ensures { result ≡ (is_none self.now.ending && may (machine_of self.now) entry) }
+        ensures { result ≡ is_legal (machine_of self.now) entry }
     {
         self.ending.is_none() && self.may(entry)
     }

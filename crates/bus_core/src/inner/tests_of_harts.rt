@@ -20,7 +20,7 @@ impl Inner {
         ensures { result ≡ may_run (machine_of self.now) hart.0 }
     {
         !self.is_held(hart)
-            && self.steps < self.limit
+            && self.has_steps()
             && !takeable(self.context(hart))
             && !self.meets_ebreak(hart)
             && !self.faults(hart)
@@ -70,7 +70,7 @@ impl Inner {
             && self.opened
             && !self.is_held(hart)
             && takeable(self.context(hart))
-            && self.steps < self.limit
+            && self.has_steps()
     }
 
     /// Whether the hart may be called.
