@@ -51,6 +51,9 @@ pub makes_none : (p : PlantedMachine) (e : Entry) → is_legal p e ≡ false →
 unfolding makes
 makes_none p e is = rw is refl
 
+pub made_not_none : (p : PlantedMachine) (e : Entry) → is_legal p e ≡ true → makes p e ≡ None → ⊥
+made_not_none p e is none = let made : makes p e ≡ Some (effect p e) = makes_effect p e is in cc
+
 one_entry : (p : PlantedMachine) (e : Entry) (d : Made) → makes p e ≡ Some d → made_by p (e ∷ []) ≡ Some d
 unfolding made_by
 one_entry p e d is = ap (λ (m : Option Made). then_made m (λ next. made_by next [])) is ∙ ap (λ (t : List ℕ). Some (record { text = t; next = d.next })) (append-nil d.text)

@@ -26,6 +26,11 @@ use Rattle.plant_mach.specs.Order.{PlacesFitStage, SessionFits, IsOrderly}
 some≢none : {A : Type 0} (x : A) → Some x ≡ None → ⊥
 some≢none x e = cc
 
+-- what is something isn't nothing
+pub not_none : {A : Type 0} (o : Option A) → is_some o ≡ true → None ≡ o → ⊥
+not_none None e none = false≢true e
+not_none (Some x) e none = some≢none x (sym none)
+
 -- Addresses among others.
 
 -- the address at which no place is planted isn't among them

@@ -90,14 +90,25 @@ impl Core {
         if !self.inner.legal(entry) {
             return Err(ApplyFault::NotLegal);
         }
-        let done = if is_quiet(entry) {
+        match self.apply_legal(entry) {
+            Ok(()) => Ok(()),
+            Err(OutOfMemory) => Err(ApplyFault::OutOfMemory),
+        }
+    }
+
+    /// Makes a legal entry.
+    fn apply_legal(&mut self, entry: Entry) -> Result<(), OutOfMemory>
+        requires here { self.old.lost ≡ false }
+        requires legal { is_legal (machine_of self.old) entry ≡ true }
+        ensures made { OnOk result (Applied self.old entry self.new) }
+        ensures unchanged { OnErr result (self.new.lost ≡ false → IsSame self.old self.new) }
+        ensures quiet { is_quiet entry ≡ true → self.new.lost ≡ false }
+        ensures origin { SameOrigin self.old self.new }
+    {
+        if is_quiet(entry) {
             self.apply_quiet(entry)
         } else {
             self.apply_spoken(entry)
-        };
-        match done {
-            Ok(()) => Ok(()),
-            Err(OutOfMemory) => Err(ApplyFault::OutOfMemory),
         }
     }
 

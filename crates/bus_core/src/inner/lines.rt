@@ -11,7 +11,7 @@ use mach_base::{Ending, Hart, OutOfMemory, Reason, all_but, push_bytes, push_new
 const NUMBER_BYTES: usize = 20;
 
 impl Inner {
-    ghost use Rattle.std.specs.Prelude.{◌≡◌, ◌+◌, ◌<◌, ◌++◌, Some, IfOk, OnOk, true, length, vec_len};
+    ghost use Rattle.std.specs.Prelude.{◌≡◌, ◌+◌, ◌<◌, ◌^◌, ◌++◌, Some, IfOk, OnOk, true, length, vec_len};
     ghost use Rattle.mach_base.specs.Texts.{newline};
     ghost use Rattle.mach_base.specs.declared.event.Entry.TheVariants.{Line, Off};
     ghost use Rattle.mach_base.specs.declared.event.Ending.TheVariants.{ScriptEnd};
@@ -22,7 +22,8 @@ impl Inner {
 
     /// The length of the template of the prompt.
     fn prompt_bytes(&self) -> usize
-        ensures { result ≡ length (prompt_template self.now.kdb.env) }
+        ensures length { result ≡ length (prompt_template self.now.kdb.env) }
+        ensures short { result < 2 ^ 63 }
     {
         match self.kdb.env.get(b"PROMPT") {
             Some(template) => template.len(),

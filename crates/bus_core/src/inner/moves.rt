@@ -15,7 +15,7 @@ impl Inner {
     ghost use Rattle.mach_base.specs.declared.event.Entry.TheVariants.{Step, Intr, Send, Take};
     ghost use Rattle.trap_ipi.specs.Interrupt.{is_takeable};
     ghost use Rattle.atom_mach.specs.State.{context_at};
-    ghost use Rattle.atom_mach.specs.Traps.{fault_of, executed, console_text};
+    ghost use Rattle.atom_mach.specs.Traps.{fault_of, executed, console_text, interrupted};
     ghost use Rattle.plant_mach.specs.Entries.{after_step, may, effect};
     ghost use Rattle.bus_core.specs.Inner.{machine_of, IsDone};
     ghost use Rattle.bus_core.specs.Seated.{owed};
@@ -43,7 +43,7 @@ impl Inner {
     }
 
     /// An instruction of the hart; its console byte goes into room that is there.
-    #[tactic(auto, unfolding(plant_mach::specs::Entries::effect), using(crate::proofs::Steps::step_facts))]
+    #[tactic(auto, unfolding(plant_mach::specs::Entries::effect))]
     pub fn make_step(&mut self, out: &mut Vec<u8>, hart: Hart)
         requires legal { may (machine_of self.old) (Step hart) ≡ true }
         requires room { vec_len out.old + 1 ≤ vec_capacity out.old }
@@ -53,14 +53,24 @@ impl Inner {
         put_console(out, byte);
     }
 
+    /// The hart takes its interrupt, and a step is counted.
+    fn take_interrupt(&mut self, hart: Hart)
+        requires hart { hart.0 < vec_len self.old.contexts }
+        requires takeable { is_takeable (context_at (machine_of self.old).machine hart.0) ≡ true }
+        requires below { self.old.steps < self.old.limit }
+        ensures next { machine_of self.new ≡ record (machine_of self.old) { machine = interrupted (machine_of self.old).machine hart.0 } }
+    {
+        take(&mut self.contexts[usize::from(hart.0)]);
+        self.steps += 1;
+    }
+
     /// The hart takes its interrupt.
-    #[tactic(auto, unfolding(plant_mach::specs::Entries::effect), using(crate::proofs::Steps::interrupt_facts))]
+    #[tactic(auto, unfolding(plant_mach::specs::Entries::effect))]
     pub fn make_interrupt(&mut self, hart: Hart)
         requires legal { may (machine_of self.old) (Intr hart) ≡ true }
         ensures next { machine_of self.new ≡ (effect (machine_of self.old) (Intr hart)).next }
     {
-        take(&mut self.contexts[usize::from(hart.0)]);
-        self.steps += 1;
+        self.take_interrupt(hart);
     }
 
     /// Sets whether a call of the hart is pending.

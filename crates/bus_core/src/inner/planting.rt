@@ -10,7 +10,7 @@ impl Inner {
     ghost use Rattle.bus_core.specs.Inner.{machine_of};
 
     /// The planted word of the place is taken out.
-    #[tactic(auto, unfolding(plant_mach::specs::Entries::effect), using(crate::proofs::Planting::pull_facts))]
+    #[tactic(auto, unfolding(plant_mach::specs::Entries::effect))]
     pub fn make_pull(&mut self, place: u8)
         requires legal { may (machine_of self.old) (Pull place) ≡ true }
         ensures next { machine_of self.new ≡ (effect (machine_of self.old) (Pull place)).next }
@@ -19,14 +19,15 @@ impl Inner {
     }
 
     /// The word of the place is planted where the place is enabled.
-    #[tactic(auto, unfolding(plant_mach::specs::Entries::effect), using(crate::proofs::Planting::plant_facts))]
+    #[tactic(auto, unfolding(plant_mach::specs::Entries::effect))]
     pub fn make_plant(&mut self, place: u8)
         requires legal { may (machine_of self.old) (Plant place) ≡ true }
         requires order { ∥ IsOrderly (machine_of self.old) ∥₁ }
         ensures next { machine_of self.new ≡ (effect (machine_of self.old) (Plant place)).next }
     {
-        if let Some(addr) = self.enabled_at(place) {
-            self.memory.plant(place, addr);
+        match self.enabled_at(place) {
+            Some(addr) => self.memory.plant(place, addr),
+            None => unreachable!(),
         }
     }
 
@@ -41,7 +42,7 @@ impl Inner {
     }
 
     /// The step word is taken out.
-    #[tactic(auto, unfolding(plant_mach::specs::Entries::effect), using(crate::proofs::Planting::pull_step_facts))]
+    #[tactic(auto, unfolding(plant_mach::specs::Entries::effect))]
     pub fn make_pull_step(&mut self)
         requires legal { may (machine_of self.old) PullStep ≡ true }
         ensures next { machine_of self.new ≡ (effect (machine_of self.old) PullStep).next }

@@ -32,7 +32,7 @@ impl Inner {
     }
 
     /// The hart opens a session with these late harts: its banner goes into room that is there.
-    #[tactic(auto, unfolding(plant_mach::specs::Entries::effect), using(crate::proofs::Sessions::open_facts))]
+    #[tactic(auto, unfolding(plant_mach::specs::Entries::effect))]
     pub fn make_open(&mut self, out: &mut Vec<u8>, master: Hart, late: u64)
         requires legal { may (machine_of self.old) (Open master late) ≡ true }
         requires room { vec_len out.old + BANNER_BYTES ≤ vec_capacity out.old }
