@@ -3,6 +3,7 @@ use Rattle.std.proofs.Common.{◌≡◌, ℕ, zero, suc, ◌≤◌, ◌==◌, lt
 use Rattle.std.proofs.lemmas.Bool.Decides.{nat_tests}
 use Rattle.mach_base.specs.Machine.{LineState, Machine}
 use Rattle.mach_base.specs.declared.event.Hart.{Hart}
+use Rattle.mach_base.specs.declared.event.Entry.TheVariants.{Line}
 use Rattle.kdb_cmd.specs.Answer.{Answer}
 use Rattle.kdb_cmd.specs.declared.outcomes.Outcome.{Outcome}
 use Rattle.kdb_cmd.specs.declared.outcomes.Outcome.TheVariants as outcome
@@ -13,9 +14,9 @@ use Rattle.atom_mach.specs.declared.step.Mode.{Mode}
 use Rattle.atom_mach.specs.declared.step.Mode.TheVariants.{Free, Pass, Leave}
 use Rattle.atom_mach.specs.Traps.{trap}
 use Rattle.atom_mach.specs.Modes.{after_go}
-use Rattle.atom_mach.specs.Session.{stops_again, mode_left, with_seen, answer_effect}
+use Rattle.atom_mach.specs.Session.{stops_again, mode_left, with_seen, with_read, line_effect, answer_effect}
 use Rattle.plant_mach.specs.Machine.{PlantedMachine}
-use Rattle.plant_mach.specs.Entries.{has_line, stage_after, line_made}
+use Rattle.plant_mach.specs.Entries.{has_line, stage_after, line_made, read_in, effect}
 use Rattle.bus_core.specs.Inner.{stage_left}
 
 -- a line is left while not all are read
@@ -57,3 +58,9 @@ line_is_made p q s read seen answer said after line e f g h =
         ∙ ap (λ (x : Machine). stage_after (mode_left answer.outcome x s.master s.late)) machine in
     ap (λ (x : PlantedMachine). record x { session = Some (record s { stage = after }) }) (e ∙ ap (λ (t : LineState). record p { machine = with_seen read t }) (sym f))
     ∙ ap (λ (x : Stage). record p { machine = with_seen read answer.state; session = Some (record s { stage = x }) }) stays
+
+-- what a line gives in this session, where it is the next
+pub read_is : (p : PlantedMachine) (h : Hart) (s : Sitting) (line : List ℕ) (rest : List (List ℕ)) → p.session ≡ Some s → p.machine.unread ≡ line ∷ rest →
+    effect p (Line h) ≡ line_made p s (line_effect s.master s.late line (with_read p.machine rest))
+unfolding effect
+read_is p h s line rest e f = ap (λ (o : Option Sitting). read_in o p.machine.unread p) e ∙ ap (λ (ls : List (List ℕ)). read_in (Some s) ls p) f

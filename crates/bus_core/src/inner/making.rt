@@ -24,7 +24,6 @@ impl Inner {
     }
 
     /// Makes a legal entry that prints no prompt; what it prints goes into room that is there.
-    #[tactic(auto, using(crate::proofs::Done::silent))]
     pub fn make_quiet(&mut self, out: &mut Vec<u8>, entry: Entry)
         requires legal { may (machine_of self.old) entry ≡ true }
         requires quiet { is_quiet entry ≡ true }
