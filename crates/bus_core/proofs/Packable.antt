@@ -25,6 +25,20 @@ abbrev pub HasRange : Entry → Type 0
 HasRange (PlantStep a) = a < 2 ^ 64
 HasRange other = Unit {0}
 
+pub range_of : (e : Entry) → ((a : ℕ) → e ≡ PlantStep a → ⊥) → HasRange e
+range_of (Step h) none = tt
+range_of (Intr h) none = tt
+range_of (Send h) none = tt
+range_of (Take h) none = tt
+range_of (Open h late) none = tt
+range_of (Pull i) none = tt
+range_of (Line h) none = tt
+range_of (Plant i) none = tt
+range_of (PlantStep a) none = absurd (none a refl)
+range_of PullStep none = tt
+range_of (Close h) none = tt
+range_of (Off ending) none = tt
+
 -- the master of a session is there
 master_there : (session : Option Sitting) (harts h : ℕ) (test : Sitting → Bool) → IsSeated harts session → in_session (λ s. is_of h s && test s) session ≡ true → h < harts
 master_there None harts h test seated e = absurd (false≢true e)

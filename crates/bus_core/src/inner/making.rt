@@ -1,5 +1,5 @@
 //! Any legal entry is made: one that prints no prompt into room that is there, the others as memory allows.
-ghost use Rattle.std.specs.Prelude.{◌≡◌};
+ghost use Rattle.std.specs.Prelude.{◌≡◌, ◌<◌, ◌^◌};
 ghost use Rattle.bus_core.specs.Inner.{is_quiet};
 
 use crate::inner::Inner;
@@ -20,7 +20,10 @@ impl Inner {
     {
         self.memory.keeps_words();
         self.kdb.breaks.keeps_limits();
-        let _entry = entry;
+        match entry {
+            Entry::PlantStep(addr) => fits(addr),
+            _ => {}
+        }
     }
 
     /// Makes a legal entry that prints no prompt; what it prints goes into room that is there.
@@ -61,6 +64,13 @@ impl Inner {
             _ => unreachable!(),
         }
     }
+}
+
+/// An address fits its type. The call does nothing; its contract says so to callers.
+fn fits(addr: u64)
+    ensures { addr < 2 ^ 64 }
+{
+    let _addr = addr;
 }
 
 /// Whether the entry prints no prompt: all but lines and the script's end.
