@@ -52,10 +52,10 @@ pub line_is_made : (p q : PlantedMachine) (s : Sitting) (read : Machine) (seen :
 line_is_made p q s read seen answer said after line e f g h =
     let machine : q.machine ≡ with_seen read answer.state = ap (λ (x : PlantedMachine). x.machine) e ∙ ap (with_seen read) (sym f) in
     let stays : after ≡ stage_after (mode_left answer.outcome (with_seen read answer.state) s.master s.late) =
-        h
-        ∙ sym (stage_of_mode said q.machine s.master s.late)
-        ∙ ap (λ (o : Outcome). stage_after (mode_left o q.machine s.master s.late)) (sym g)
-        ∙ ap (λ (x : Machine). stage_after (mode_left answer.outcome x s.master s.late)) machine in
+    h
+    ∙ sym (stage_of_mode said q.machine s.master s.late)
+    ∙ ap (λ (o : Outcome). stage_after (mode_left o q.machine s.master s.late)) (sym g)
+    ∙ ap (λ (x : Machine). stage_after (mode_left answer.outcome x s.master s.late)) machine in
     ap (λ (x : PlantedMachine). record x { session = Some (record s { stage = after }) }) (e ∙ ap (λ (t : LineState). record p { machine = with_seen read t }) (sym f))
     ∙ ap (λ (x : Stage). record p { machine = with_seen read answer.state; session = Some (record s { stage = x }) }) stays
 

@@ -162,8 +162,7 @@ pass_unplanted p stage.Leaving e fits = absurd (false≢true e)
 step_place : (p : PlantedMachine) (session : Option Sitting) (a : ℕ) → in_session (λ s. is_pass s.stage && is_address a (step_address p.machine s.master.0)) session ≡ true → SessionFits session p → (is_text_word p.machine.seen.memory a ≡ true) × (planted_of p ≡ 0)
 step_place p None a e fits = absurd (false≢true e)
 step_place p (Some s) a e fits =
-    let both = and_true (is_pass s.stage) _ e in
-    (
+    let both = and_true (is_pass s.stage) _ e in (
       address_text p.machine (context_at p.machine s.master.0).pc a (next_pc p.machine s.master.0) both.1,
       pass_unplanted p s.stage both.0 fits.1,
     )

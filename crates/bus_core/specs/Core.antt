@@ -60,4 +60,4 @@ pub record SameOrigin (a b : Core) : Type 0 where
 pub record IsRunOf (o : Origin) (c : Core) : Type 0 where
   pub run : c.lost ≡ false → IsReading (atomic_start_of o) (reading (entries_of c)) (record { text = text_of c; next = machine_of c })
   pub transcript : c.lost ≡ false → (ending : Ending) →
-    transcript_of (atomic_start_of o) (reading (entries_of c)) ending ≡ Some (text_of c ++ ending_line ending (machine_of c).machine.steps)
+      transcript_of (atomic_start_of o) (reading (entries_of c)) ending ≡ Some (text_of c ++ ending_line ending (machine_of c).machine.steps)

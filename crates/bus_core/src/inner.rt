@@ -15,6 +15,7 @@ mod sessions;
 mod tests_of_entries;
 mod tests_of_harts;
 
+use atom_mach::Script;
 use bus_plant::Planted;
 use deck_core::Sitting;
 use hart_ctx::Context;
@@ -22,7 +23,6 @@ use kdb_cmd::Kdb;
 use mach_base::Ending;
 use std::alloc::Global;
 use sym_map::Symbols;
-use atom_mach::Script;
 
 /// The planted machine from the inside.
 #[derive(Drop)]

@@ -9,7 +9,9 @@ use bus_plant::Planted;
 use img_text::{Image, boot};
 use kdb_cmd::Kdb;
 use mach_base::{Ending, Entry, OutOfMemory, Packed};
-use plant_mach::{entries_keep, entries_keep_order, legal_lists_are_runs, lists_join, starts_are_orderly};
+use plant_mach::{
+    entries_keep, entries_keep_order, legal_lists_are_runs, lists_join, starts_are_orderly,
+};
 use std::alloc::Global;
 use sym_map::Symbols;
 

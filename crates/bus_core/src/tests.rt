@@ -34,14 +34,13 @@ fn entries_print_their_sessions(rt: HostRuntime) -> Result<(), Fail> {
     let mut core = core_of(rt.alloc(), TWO_AND_HALT, b"bp 1004\ngo\nbc 0\ngo\n")?;
     apply_all(
         &mut core,
-        &[
-            Entry::Send(one),
-            Entry::Take(one),
-            Entry::Open(zero, 0),
-        ],
+        &[Entry::Send(one), Entry::Take(one), Entry::Open(zero, 0)],
     )?;
     assert_eq!(rt; core.apply(Entry::Step(zero)), Err(ApplyFault::NotLegal));
-    assert_eq!(rt; (core.journal().len(), core.steps(), core.over(), core.lost()), (3, 0, None, false));
+    assert_eq!(rt;
+        (core.journal().len(), core.steps(), core.over(), core.lost()),
+        (3, 0, None, false)
+    );
     apply_all(
         &mut core,
         &[
@@ -66,7 +65,10 @@ fn entries_print_their_sessions(rt: HostRuntime) -> Result<(), Fail> {
         ],
     )?;
     assert_eq!(rt; core.transcript(), GONE.as_bytes());
-    assert_eq!(rt; (core.journal().len(), core.steps(), core.over()), (21, 6, Some(Ending::AllHalted)));
+    assert_eq!(rt;
+        (core.journal().len(), core.steps(), core.over()),
+        (21, 6, Some(Ending::AllHalted))
+    );
     Ok(())
 }
 

@@ -31,11 +31,13 @@ impl Inner {
         ensures { result ≡ in_session (λ s. is_of hart.0 s && is_pass s.stage) self.now.session }
     {
         match self.session {
-            Some(Sitting {
-                master,
-                stage: Stage::Pass { .. },
-                ..
-            }) => master.0 == hart.0,
+            Some(
+                Sitting {
+                    master,
+                    stage: Stage::Pass { .. },
+                    ..
+                },
+            ) => master.0 == hart.0,
             _ => false,
         }
     }

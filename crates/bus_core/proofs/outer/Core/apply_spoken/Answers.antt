@@ -10,7 +10,7 @@ use Rattle.bus_core.proofs.outer.Core.apply_spoken.Goals as goal
 pub invariant_of-self : goal.invariant_of-self
 invariant_of-self c =
     let core = c.args.self.now in
-    record { made = ∥∥₁_map core.made (λ h. (h.0, lost_from h.0 (entries_of core) (entries_of core) (text_of core) c.make_spoken.new.out.items (machine_of core) (inner_machine c.make_spoken.new.self) core.lost true refl refl h.1)); }
+    record { made = ∥∥₁_map core.made (λ h. (h.0, lost_from h.0 (entries_of core) (entries_of core) (text_of core) c.make_spoken.new.out.items (machine_of core) (inner_machine c.make_spoken.new.self) core.lost true refl refl h.1)) }
 
 pub returns-in_err-make_spoken-clause-origin : goal.returns-in_err-make_spoken-clause-origin
 returns-in_err-make_spoken-clause-origin c =
@@ -22,7 +22,7 @@ returns-in_err-make_spoken-clause-origin c =
 pub invariant_of-self-in-Break-branch-2 : goal.invariant_of-self-in-Break-branch-2
 invariant_of-self-in-Break-branch-2 c =
     let core = c.args.self.now in
-    record { made = ∥∥₁_map core.made (λ h. (h.0, lost_from h.0 (entries_of core) c.try_push.new.self.entries (text_of core) c.make_spoken.new.out.items (machine_of core) (inner_machine c.make_spoken.new.self) core.lost true c.in_err-try_push.ensures.err refl h.1)); }
+    record { made = ∥∥₁_map core.made (λ h. (h.0, lost_from h.0 (entries_of core) c.try_push.new.self.entries (text_of core) c.make_spoken.new.out.items (machine_of core) (inner_machine c.make_spoken.new.self) core.lost true c.in_err-try_push.ensures.err refl h.1)) }
 
 pub returns-in_err-try_push-clause-origin : goal.returns-in_err-try_push-clause-origin
 returns-in_err-try_push-clause-origin c =
@@ -35,7 +35,7 @@ pub invariant_of-self-2 : goal.invariant_of-self-2
 invariant_of-self-2 c =
     let core = c.args.self.now in
     let p = machine_of core in
-    record { made = ∥∥₁_map core.made (λ h. (h.0, one_more c.lists_join.ensures h.0 (entries_of core) (text_of core) p c.args.entry (effect p c.args.entry) c.try_push.new.self.entries c.make_spoken.new.out.items (inner_machine c.make_spoken.new.self) core.lost false c.requires.here (makes_effect p c.args.entry c.requires.legal) c.in_ok-try_push.ensures.ok c.in_ok-make_spoken.ensures.done.text c.in_ok-make_spoken.ensures.done.next h.1)); }
+    record { made = ∥∥₁_map core.made (λ h. (h.0, one_more c.lists_join.ensures h.0 (entries_of core) (text_of core) p c.args.entry (effect p c.args.entry) c.try_push.new.self.entries c.make_spoken.new.out.items (inner_machine c.make_spoken.new.self) core.lost false c.requires.here (makes_effect p c.args.entry c.requires.legal) c.in_ok-try_push.ensures.ok c.in_ok-make_spoken.ensures.done.text c.in_ok-make_spoken.ensures.done.next h.1)) }
 
 pub returns-clause-made : goal.returns-clause-made
 returns-clause-made c =

@@ -7,7 +7,7 @@ use Rattle.bus_core.proofs.outer.Core.start.Goals as goal
 pub invariant_of-result : goal.invariant_of-result
 invariant_of-result c =
     let o : Origin = record { image = c.args.image.now; symbols = c.args.names; lines = c.args.script; harts = c.args.harts; limit = c.args.limit } in
-    record { made = ∣ (o, starts_from o _ _ _ false c.segments-segments.ensures.rules c.in_ok-journal.ensures.0 c.new.ensures.items c.in_ok-inner.ensures.machine) ∣₁; }
+    record { made = ∣ (o, starts_from o _ _ _ false c.segments-segments.ensures.rules c.in_ok-journal.ensures.0 c.new.ensures.items c.in_ok-inner.ensures.machine) ∣₁ }
 
 pub returns-clause-origin : goal.returns-clause-origin
 returns-clause-origin c =
