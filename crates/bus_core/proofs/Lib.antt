@@ -1,0 +1,9 @@
+pub mod Raw
+pub mod Lines
+pub mod Steps
+pub mod Sessions
+pub mod Planting
+pub mod Done
+pub mod Lists
+pub mod Origins
+pub mod Packable

@@ -1,0 +1,4 @@
+pub mod Seated
+pub mod Inner
+pub mod Origin
+pub mod Core
