@@ -1,13 +1,13 @@
 -- Each election step is a tick.
-use Rattle.std.proofs.Common.{◌≡◌, ℕ, suc, ◌+◌, ◌<◌, ◌==◌, ◌&&◌, ◌||◌, Bool, true, false, List, length, get_or, set, refl, sym, ◌∙◌, ap, subst, inl, inr, arith, if◌then◌else◌}
-use Rattle.std.proofs.lemmas.Bool.{both_ways, cases_eq, cases_Bool, cond-true, cond-false, eq-eqb, ne_eqb, and_left}
-use Rattle.std.proofs.lemmas.List.{get_or-set_same, get_or-set_other, length-set}
+use Rattle.std.proofs.Common.{◌≡◌, ℕ, suc, ◌+◌, ◌<◌, ◌==◌, ◌||◌, true, false, List, set, refl, sym, ◌∙◌, ap, subst, inl, inr, arith}
+use Rattle.std.proofs.lemmas.Bool.{both_ways, cases_eq, cond-true, cond-false, eq-eqb, ne_eqb, and_left}
+use Rattle.std.proofs.lemmas.List.{get_or-set_same, get_or-set_other}
 use Rattle.deck_core.specs.contract.Told.{Told}
 use Rattle.deck_core.specs.decks.Seat.{clears, looks_in, sees_gate}
 use Rattle.deck_core.specs.ticks.Configuration.{Configuration, put}
-use Rattle.deck_core.specs.ticks.NextPhase.{after_clear, after_gate, after_look, after_shut, is_transaction}
+use Rattle.deck_core.specs.ticks.NextPhase.{after_clear, after_look, after_shut, is_transaction}
 use Rattle.deck_core.specs.ticks.Phases.{holds}
-use Rattle.deck_core.specs.ticks.Tick.{Ticks, enters, frees, makes_call, mark_counts, tick, tries_master, turns_gate, writes}
+use Rattle.deck_core.specs.ticks.Tick.{Ticks, enters, mark_counts, tick, turns_gate, writes}
 use Rattle.deck_core.specs.declared.plain.act.Answer.{Answer}
 use Rattle.deck_core.specs.declared.plain.phase.Looks.{Looks}
 use Rattle.deck_core.specs.declared.plain.phase.Phase.{Phase}
@@ -18,10 +18,10 @@ use Rattle.deck_core.proofs.Steps.{quiet_tick}
 use Rattle.board_turn.specs.declared.view.View.{View}
 use Rattle.board_turn.specs.declared.words.TheConstants.{TURN, MASTER, GATE, OWN, WORDS}
 use Rattle.board_turn.specs.Plays.{moved_to}
-use Rattle.board_turn.specs.Shown.{shown, view_of, word}
+use Rattle.board_turn.specs.Shown.{shown, word}
 use Rattle.board_turn.proofs.Lists.{reload}
 use Rattle.board_turn.proofs.Shows.{same_words, shown-phase, shown-told, shown-limit, shown_enters, shown_step}
-use Rattle.board_elect.specs.Plays.{after_want, after_try, after_freeing, after_clearing, after_shutting, after_looking, after_opening, after_seeing, after_marking, is_counted, to_phase}
+use Rattle.board_elect.specs.Plays.{after_try, after_shutting, after_looking, after_seeing, is_counted, to_phase}
 use Rattle.board_elect.specs.Steps.{Stands, WantIsTick, TryIsTick, LoseIsTick, ClearIsTick, FreeIsTick, ShutIsTick, LookIsTick, OpenGateIsTick, SeeGateIsTick, MarkIsTick}
 
 -- a tick without a call doesn't read the answer

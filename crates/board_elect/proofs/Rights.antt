@@ -1,9 +1,8 @@
 -- Each election step keeps the rule of the board.
-use Rattle.std.proofs.Common.{◌≡◌, ℕ, suc, ◌+◌, ◌*◌, ◌%◌, ◌^◌, ◌<◌, ◌≤◌, ◌==◌, Bool, true, false, List, [], length, get_or, set, refl, sym, ◌∙◌, ap, subst, inl, inr, arith, Option, Some, None, if◌then◌else◌}
+use Rattle.std.proofs.Common.{◌≡◌, ℕ, suc, ◌+◌, ◌*◌, ◌%◌, ◌^◌, ◌<◌, ◌≤◌, ◌==◌, Bool, true, false, length, set, refl, sym, ◌∙◌, ap, subst, inl, inr, arith, Option, if◌then◌else◌}
 use mathlib.Core.Option.{none}
-use lib.ListN.{get_elem?}
 use prog.Atomic.{either}
-use Rattle.std.proofs.lemmas.Bool.{both_ways, cases_Bool, cond-true, cond-false, eqb-true, eqb-false}
+use Rattle.std.proofs.lemmas.Bool.{both_ways, cases_Bool, eqb-true, eqb-false}
 use Rattle.std.proofs.lemmas.List.{get_or-set_other, get_or-set_same, length-set}
 use Rattle.mach_base.specs.declared.limits.TheConstants.{MOST_LINES}
 use Rattle.atomic_table.specs.Table.{State, Me, Act, Allows, Valid, carried_after, stepped, step}
@@ -30,7 +29,7 @@ use Rattle.board_turn.specs.Plays.{moved_to}
 use Rattle.board_turn.specs.Rule.{Ruled}
 use Rattle.board_turn.specs.Shown.{shown, view_of, word}
 use Rattle.board_turn.proofs.Lists.{reload}
-use Rattle.board_turn.proofs.Rules.{Quiet, Sits, SameSeat, one_shut, quiet, sits}
+use Rattle.board_turn.proofs.Rules.{Sits, one_shut, quiet, sits}
 use Rattle.board_turn.proofs.Shows.{shown-gate, shown-master, shown-told}
 use Rattle.board_elect.specs.Plays.{Moves, Shuts, Tries, after_want, after_try, after_freeing, after_clearing, after_shutting, after_looking, after_opening, after_seeing, after_marking, to_phase}
 use Rattle.board_elect.specs.Steps.{Stands}

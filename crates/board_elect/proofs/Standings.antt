@@ -1,19 +1,19 @@
 -- A pass stays ready over each election step.
-use Rattle.std.proofs.Common.{◌≡◌, ℕ, suc, ◌+◌, ◌<◌, ◌==◌, Bool, true, false, refl, sym, ◌∙◌, ap, subst, if◌then◌else◌, Option}
+use Rattle.std.proofs.Common.{◌≡◌, ℕ, ◌<◌, Bool, true, false, refl, sym, ◌∙◌, ap, subst, Option}
 use Rattle.std.specs.Prelude.{Result, Ok, Err, IfErr, IfOk, IsTrue, is_ok}
 use Rattle.std.specs.Bool.{OnTrue}
-use Rattle.std.proofs.lemmas.Bool.{both_ways, cond-true, cond-false, eq-eqb, ne_eqb}
+use Rattle.std.proofs.lemmas.Bool.{both_ways}
 use Rattle.atomic_table.specs.Seated.{TableId}
 use Rattle.atomic_table.specs.declared.shared.Seat.{Seat}
-use Rattle.deck_core.specs.decks.Seat.{at_place as seat_at, clears, looks_in, sees_gate}
+use Rattle.deck_core.specs.decks.Seat.{at_place as seat_at, clears, looks_in}
 use Rattle.deck_core.specs.ticks.Tick.{is_busy}
-use Rattle.deck_core.specs.ticks.NextPhase.{GoesOn, after_clear, after_gate, after_look, after_shut, is_transaction}
+use Rattle.deck_core.specs.ticks.NextPhase.{GoesOn, after_clear, after_look, after_shut, is_transaction}
 use Rattle.deck_core.specs.declared.plain.phase.Looks.{Looks}
 use Rattle.deck_core.specs.declared.plain.phase.Phase.{Phase}
 use Rattle.deck_core.specs.declared.plain.phase.Phase.TheVariants as phase
 use Rattle.deck_core.specs.declared.plain.phase.Place.{Place}
 use Rattle.deck_core.specs.declared.plain.phase.Place.TheVariants as place
-use Rattle.deck_core.proofs.Programs.{gate_goes_on, looks_go_on, shut_goes_on}
+use Rattle.deck_core.proofs.Programs.{looks_go_on, shut_goes_on}
 use Rattle.board_turn.specs.declared.view.Slot.{Slot}
 use Rattle.board_turn.specs.declared.view.Standing.{Standing}
 use Rattle.board_turn.specs.declared.view.View.{View}
@@ -21,7 +21,7 @@ use Rattle.board_turn.specs.declared.board.Busy.{Busy}
 use Rattle.board_turn.specs.declared.board.Pass.{Pass}
 use Rattle.board_turn.specs.Plays.{at_place, moved_to}
 use Rattle.board_turn.specs.Ready.{SawFree, SitsAt, seat_in}
-use Rattle.board_turn.proofs.Readies.{Stood, steps_on}
+use Rattle.board_turn.proofs.Readies.{steps_on}
 use Rattle.board_elect.specs.declared.masters.Taken.{Taken}
 use Rattle.board_elect.specs.Plays.{after_looking, after_shutting, is_counted, to_phase}
 

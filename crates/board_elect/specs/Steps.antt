@@ -1,5 +1,5 @@
 -- For each election step: what the board shows after it is the tick of what it showed before.
-use Rattle.std.specs.Prelude.{◌≡◌, ℕ, suc, ◌+◌, ◌<◌, Bool, true, List, slice_set}
+use Rattle.std.specs.Prelude.{◌≡◌, ℕ, suc, ◌+◌, ◌<◌, true, List, slice_set}
 use Rattle.mach_base.specs.declared.limits.TheConstants.{MASK_HARTS}
 use Rattle.deck_core.specs.contract.Told.{Told}
 use Rattle.deck_core.specs.decks.Seat.{clears, looks_in, sees_gate}

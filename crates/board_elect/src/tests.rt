@@ -124,8 +124,14 @@ fn an_old_mark_does_not_count(rt: HostRuntime) -> Result<(), Fail> {
     let mut one = BoardSeat::new(&board, first);
     let mut other = BoardSeat::new(&board, second);
     let mut progs = (Prog::new(Hart(0), 2, 2), Prog::new(Hart(1), 2, 2));
-    assert_eq!(rt; rows_that_hold(&mut one, &mut other, &mut progs, &ONE_SESSION), 12);
-    assert_eq!(rt; rows_that_hold(&mut one, &mut other, &mut progs, &THE_OTHER), 6);
+    assert_eq!(rt;
+        rows_that_hold(&mut one, &mut other, &mut progs, &ONE_SESSION),
+        12
+    );
+    assert_eq!(rt;
+        rows_that_hold(&mut one, &mut other, &mut progs, &THE_OTHER),
+        6
+    );
     Ok(())
 }
 
@@ -138,7 +144,10 @@ fn a_look_tells_the_old_mark(rt: HostRuntime) -> Result<(), Fail> {
     let mut one = BoardSeat::new(&board, first);
     let mut other = BoardSeat::new(&board, second);
     let mut progs = (Prog::new(Hart(0), 2, 2), Prog::new(Hart(1), 2, 2));
-    assert_eq!(rt; rows_that_hold(&mut one, &mut other, &mut progs, &ONE_SESSION), 12);
+    assert_eq!(rt;
+        rows_that_hold(&mut one, &mut other, &mut progs, &ONE_SESSION),
+        12
+    );
     let found = look_at_next(one);
     assert_eq!(rt; found, Some(Mark::Not { seen: 3 }));
     Ok(())

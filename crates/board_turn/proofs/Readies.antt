@@ -1,5 +1,5 @@
 -- A pass stays ready over each step.
-use Rattle.std.proofs.Common.{◌≡◌, ℕ, suc, zero, ◌+◌, ◌<◌, ◌≤◌, ◌==◌, Bool, true, false, List, [], ◌∷◌, ◌++◌, length, get_or, set, replicate, refl, sym, ◌∙◌, ap, subst, inl, inr, arith, Option, Some, None, if◌then◌else◌}
+use Rattle.std.proofs.Common.{◌≡◌, ℕ, suc, zero, ◌+◌, ◌<◌, ◌≤◌, ◌==◌, true, false, List, [], ◌∷◌, ◌++◌, length, get_or, set, replicate, refl, sym, ◌∙◌, ap, subst, inl, inr, arith, Option, Some, None}
 use Rattle.std.specs.Prelude.{MatchBool, remove}
 use Rattle.std.proofs.lemmas.List.{get_or-set_same, get_or-set_other, length-set, same_lists}
 use Rattle.std.proofs.lemmas.Bool.{both_ways, cases_eq, cond-true, cond-false, eq-eqb, ne_eqb}
@@ -25,7 +25,7 @@ use Rattle.board_turn.specs.declared.view.Slot.{Slot}
 use Rattle.board_turn.specs.declared.view.Standing.{Standing}
 use Rattle.board_turn.specs.declared.view.View.{View}
 use Rattle.board_turn.specs.Plays.{after_call, after_peek, at_place, last_of, moved_to, note_now, taken, with_stored}
-use Rattle.board_turn.specs.declared.words.TheConstants.{TURN, MASTER, GATE, NOTES, OWN, WORDS}
+use Rattle.board_turn.specs.declared.words.TheConstants.{TURN, MASTER, GATE, NOTES, OWN}
 use Rattle.board_turn.specs.Ready.{AllDone, AreAll, AreFirst, IsDone, SawFree, SitsAt, first_start, out_with, start_of}
 use Rattle.board_turn.specs.Rule.{IsOrigin}
 use Rattle.board_turn.specs.Shown.{note, notes_in, view_told}

@@ -1,9 +1,9 @@
 -- What every step has in common: one seat's view changes, and the rule still holds of the others.
-use Rattle.std.proofs.Common.{◌≡◌, ℕ, suc, ◌+◌, ◌<◌, ◌≤◌, ◌==◌, Bool, true, false, List, length, get_or, set, refl, sym, ◌∙◌, ap, subst, inl, inr, arith, Option, Some, None}
+use Rattle.std.proofs.Common.{◌≡◌, ℕ, suc, ◌+◌, ◌<◌, ◌≤◌, true, false, List, length, set, refl, sym, ◌∙◌, ap, subst, inl, inr, arith, Option}
 use mathlib.Core.Option.{some}
 use mathlib.Core.Option as maybe
 use lib.ListN.{get_elem?}
-use Rattle.std.proofs.lemmas.Bool.{both_ways, cases_eq, cases_Bool, eqb-true}
+use Rattle.std.proofs.lemmas.Bool.{both_ways, cases_eq, eqb-true}
 use Rattle.std.proofs.lemmas.List.{length-set}
 use Rattle.atomic_table.specs.Table.{State}
 use Rattle.deck_core.specs.Invariant.{Sound}
@@ -17,11 +17,11 @@ use Rattle.deck_core.specs.declared.plain.note_words.TheConstants.{NOTE_WORDS}
 use Rattle.deck_core.proofs.Conditions.{one_master}
 use Rattle.board_turn.specs.declared.view.View.{View}
 use Rattle.board_turn.specs.declared.view.Slot.{Slot}
-use Rattle.board_turn.specs.declared.words.TheConstants.{TURN, MASTER, GATE, NOTES, OWN, WORDS}
-use Rattle.board_turn.specs.Shown.{word, note, view_of, blank_view, shown}
-use Rattle.board_turn.specs.Rule.{Ruled, SeatFits, IsSeatOf, IsSpent, HoldsTurn, IsHome, Counts}
+use Rattle.board_turn.specs.declared.words.TheConstants.{TURN, GATE, NOTES, WORDS}
+use Rattle.board_turn.specs.Shown.{word, view_of, blank_view, shown}
+use Rattle.board_turn.specs.Rule.{Ruled, SeatFits, IsSeatOf, IsHome, Counts}
 use Rattle.board_turn.proofs.Lists.{At, at_get}
-use Rattle.board_turn.proofs.Shows.{view_same, view_other, shown-place, shown-phase, shown-turn, shown-told}
+use Rattle.board_turn.proofs.Shows.{view_same, view_other, shown-place, shown-phase}
 
 -- a hart that holds the turn is its holder; there is one
 pub holder_is : (c : Configuration) (h : ℕ) → Sound c → holds (c.place h) ≡ true → holder_of c.turn ≡ suc h

@@ -1,34 +1,32 @@
 -- The making and the joining of seats, the board's beginning and its end.
-use Rattle.std.proofs.Common.{◌≡◌, ℕ, suc, zero, ◌+◌, ◌-◌, ◌<◌, ◌≤◌, ◌==◌, ◌||◌, Bool, true, false, List, [], ◌∷◌, ◌++◌, length, get_or, set, refl, sym, ◌∙◌, ap, subst, inl, inr, arith, Option, Some, None}
+use Rattle.std.proofs.Common.{◌≡◌, ℕ, suc, zero, ◌+◌, ◌-◌, ◌<◌, ◌≤◌, true, false, List, [], ◌∷◌, ◌++◌, length, set, refl, sym, ◌∙◌, ap, subst, inl, inr, arith, Option, Some, None}
 use Rattle.std.proofs.Math.Path.{fun_ext}
-use mathlib.Core.Option.{none, some, some-injective}
+use mathlib.Core.Option.{some, some-injective}
 use lib.ListN.{get_elem?}
 use Rattle.std.proofs.lemmas.Bool.{both_ways, cases_eq, cases_lt, eq-eqb}
 use Rattle.std.proofs.lemmas.List.{length-set}
 use Rattle.atomic_table.specs.Seated.{TableId}
-use Rattle.atomic_table.specs.Table.{State, Splits, Joins, Final, Seen, opening}
+use Rattle.atomic_table.specs.Table.{Splits, Joins, Final, Seen, opening}
 use Rattle.deck_core.specs.Invariant.{Sound}
 use Rattle.deck_core.specs.contract.Told.{Told, IsOpening}
 use Rattle.deck_core.specs.plain.Words.{holder_of}
 use Rattle.deck_core.specs.ticks.Configuration.{Configuration}
-use Rattle.deck_core.specs.ticks.Phases.{holds, is_finished, is_shut}
+use Rattle.deck_core.specs.ticks.Phases.{holds, is_finished}
 use Rattle.deck_core.specs.ticks.NextPhase.{is_transaction}
 use Rattle.deck_core.specs.ticks.Tick.{enters}
 use Rattle.deck_core.specs.declared.plain.act.Answer.{Answer}
 use Rattle.deck_core.specs.declared.plain.note_words.TheConstants.{NOTE_WORDS}
 use Rattle.deck_core.specs.declared.plain.phase.Phase.{Phase}
 use Rattle.deck_core.specs.declared.plain.phase.Phase.TheVariants as phase
-use Rattle.deck_core.specs.declared.plain.phase.Place.{Place}
 use Rattle.deck_core.specs.declared.plain.phase.Place.TheVariants as place
 use Rattle.deck_core.proofs.Joined.{finished_leaves}
 use Rattle.deck_core.proofs.Opening.{opening_is_sound}
-use Rattle.deck_core.proofs.TurnWords.{holder_of-small}
 use Rattle.board_turn.specs.declared.board.Pass.{Pass}
 use Rattle.board_turn.specs.declared.view.View.{View}
 use Rattle.board_turn.specs.declared.view.Slot.{Slot}
 use Rattle.board_turn.specs.declared.words.TheConstants.{TURN, MASTER, GATE, NOTES, OWN, WORDS}
 use Rattle.board_turn.specs.Shown.{word, note, view_of, blank_view, shown, first_view, one_more, next_view, one_fewer}
-use Rattle.board_turn.specs.Rule.{Ruled, SeatFits, IsSeatOf, IsSpent, HoldsTurn, IsHome, IsOrigin, Counts}
+use Rattle.board_turn.specs.Rule.{Ruled, SeatFits, IsSeatOf, IsHome, IsOrigin}
 use Rattle.board_turn.specs.Ready.{IsDone, start_of}
 use Rattle.board_turn.proofs.Lists.{At, at_get, snoc_new, snoc_old, snoc_past, past}
 use Rattle.board_turn.proofs.Shows.{part, part_stays, shown_by, shown_enters, shown_stays, same_words, shown-phase, shown-place, shown-told, shown-turn, view_same, view_other}

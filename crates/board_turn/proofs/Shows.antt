@@ -1,12 +1,12 @@
 -- What the board shows after a step of one seat.
-use Rattle.std.proofs.Common.{◌≡◌, ℕ, suc, ◌+◌, ◌<◌, ◌==◌, List, length, get_or, set, refl, sym, ◌∙◌, ap, subst, inl, inr, Bool, true, false, arith, if◌then◌else◌}
+use Rattle.std.proofs.Common.{◌≡◌, ℕ, suc, ◌+◌, ◌<◌, ◌==◌, List, length, set, refl, sym, ◌∙◌, ap, subst, inl, inr, Bool, arith, if◌then◌else◌}
 use Rattle.std.proofs.Math.Path.{fun_ext}
 use Rattle.std.proofs.lemmas.Bool.{cases_eq, cases_Bool, cond-true, cond-false, eq-eqb, ne_eqb}
-use Rattle.std.proofs.lemmas.List.{get_or-set_same, get_or-set_other, length-set}
+use Rattle.std.proofs.lemmas.List.{get_or-set_same, get_or-set_other}
 use Rattle.deck_core.specs.contract.Told.{Told}
 use Rattle.deck_core.specs.plain.Words.{turn_word, mask_of}
 use Rattle.deck_core.specs.ticks.Configuration.{Configuration, put}
-use Rattle.deck_core.specs.ticks.Tick.{enters, goes, gives, is_busy, peeks, takes, tick, writes}
+use Rattle.deck_core.specs.ticks.Tick.{enters, goes, gives, is_busy, peeks, takes}
 use Rattle.deck_core.specs.declared.plain.phase.Phase.{Phase}
 use Rattle.deck_core.specs.declared.plain.phase.Place.{Place}
 use Rattle.deck_core.specs.declared.plain.phase.Place.TheVariants as place

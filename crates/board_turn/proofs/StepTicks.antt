@@ -1,18 +1,18 @@
 -- What the board shows after each kind of step is the tick of what it showed before.
-use Rattle.std.proofs.Common.{◌≡◌, ℕ, suc, ◌+◌, Bool, true, List, [], ◌∷◌, ◌++◌, set, refl, sym, ◌∙◌, ap, subst, if◌then◌else◌}
+use Rattle.std.proofs.Common.{◌≡◌, ℕ, suc, ◌+◌, true, List, [], ◌∷◌, ◌++◌, set, refl, sym, ◌∙◌, ap, if◌then◌else◌}
 use Rattle.deck_core.specs.contract.Told.{Told}
 use Rattle.deck_core.specs.plain.Words.{turn_word, mask_of}
 use Rattle.deck_core.specs.ticks.Configuration.{Configuration}
 use Rattle.deck_core.specs.ticks.NextPhase.{after_answer, is_transaction}
 use Rattle.deck_core.specs.ticks.Phases.{holds}
-use Rattle.deck_core.specs.ticks.Tick.{gives, is_busy, peeks, takes, tick, transacts}
+use Rattle.deck_core.specs.ticks.Tick.{is_busy, peeks, tick}
 use Rattle.deck_core.specs.declared.plain.act.Answer.{Answer}
 use Rattle.deck_core.specs.declared.plain.phase.Place.TheVariants as place
 use Rattle.deck_core.proofs.Flats.{give_tick, tick_transacts}
 use Rattle.board_turn.specs.declared.view.View.{View}
 use Rattle.board_turn.specs.declared.words.TheConstants.{TURN, NOTES}
 use Rattle.board_turn.specs.Plays.{after_call, after_peek, at_place, moved_to, taken}
-use Rattle.board_turn.specs.Shown.{word, view_of, shown}
+use Rattle.board_turn.specs.Shown.{word, shown}
 use Rattle.board_turn.specs.Steps.{Before, PeekIsTick, TakeIsTick, MissIsTick, GiveIsTick, StoreShowsNothing, SplitShowsNothing, JoinShowsRun}
 use Rattle.board_turn.proofs.Lists.{reload}
 use Rattle.board_turn.proofs.Shows.{give_shown, miss_shown, note_shown, peek_shown, shown-phase, shown-place, shown-told, shown_stays, take_shown}

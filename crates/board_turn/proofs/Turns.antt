@@ -1,5 +1,5 @@
 -- Each step on the turn word and on the notes keeps the rule.
-use Rattle.std.proofs.Common.{◌≡◌, ℕ, suc, zero, ◌+◌, ◌-◌, ◌<◌, ◌≤◌, ◌==◌, Bool, true, false, not, List, [], ◌∷◌, ◌++◌, length, get_or, set, refl, sym, ◌∙◌, ap, subst, inl, inr, arith, Option, Some, None, if◌then◌else◌}
+use Rattle.std.proofs.Common.{◌≡◌, ℕ, suc, zero, ◌+◌, ◌-◌, ◌<◌, ◌==◌, Bool, true, false, List, [], ◌∷◌, ◌++◌, length, get_or, set, refl, sym, ◌∙◌, ap, subst, inl, inr, arith, Option, Some, if◌then◌else◌}
 use mathlib.Core.Option.{none, some}
 use prog.Atomic.{either}
 use Rattle.std.specs.Prelude.{MatchBool}
@@ -16,11 +16,10 @@ use Rattle.deck_core.specs.plain.NoteWords.{note_words}
 use Rattle.deck_core.specs.plain.Words.{holder_of, mask_of, turn_word}
 use Rattle.deck_core.specs.ticks.Configuration.{Configuration}
 use Rattle.deck_core.specs.ticks.NextPhase.{act_of, after_answer, is_transaction}
-use Rattle.deck_core.specs.ticks.Phases.{holds, is_shut}
+use Rattle.deck_core.specs.ticks.Phases.{holds}
 use Rattle.deck_core.specs.ticks.Tick.{Ticks, is_busy, peeks}
 use Rattle.deck_core.specs.declared.plain.act.Answer.{Answer}
 use Rattle.deck_core.specs.declared.plain.note_words.TheConstants.{NOTE_WORDS}
-use Rattle.deck_core.specs.declared.plain.phase.Phase.{Phase}
 use Rattle.deck_core.specs.declared.plain.phase.Place.{Place}
 use Rattle.deck_core.specs.declared.plain.phase.Place.TheVariants as place
 use Rattle.deck_core.proofs.Conditions.{call_is_allowed}
@@ -31,7 +30,7 @@ use Rattle.deck_core.proofs.Transactions.{peek_keeps, take_keeps}
 use Rattle.deck_core.proofs.TurnWords.{holder_of-turn_word, mask_of-lt}
 use Rattle.board_turn.specs.declared.view.View.{View}
 use Rattle.board_turn.specs.declared.view.Slot.{Slot}
-use Rattle.board_turn.specs.declared.words.TheConstants.{TURN, MASTER, GATE, NOTES, OWN, WORDS}
+use Rattle.board_turn.specs.declared.words.TheConstants.{TURN, GATE, NOTES, WORDS}
 use Rattle.board_turn.specs.Shown.{word, note, notes_in, view_of, view_told, shown}
 use Rattle.board_turn.specs.Rule.{Ruled, SeatFits, IsSeatOf, HoldsTurn, IsHome, IsOrigin}
 use Rattle.board_turn.specs.Plays.{Gives, Loads, Peeks, Stores, Takes, TakesBus, after_call, after_peek, at_place, moved_to, note_now, taken}

@@ -1,5 +1,5 @@
 -- What each kind of step tells: the seat after it, by the seat before and the number found.
-use Rattle.std.specs.Prelude.{◌≡◌, ℕ, ◌-◌, ◌==◌, Bool, true, false, List, [], ◌∷◌, ◌++◌, Option, Some, None, MatchBool, slice_index_or, if◌then◌else◌}
+use Rattle.std.specs.Prelude.{◌≡◌, ℕ, ◌-◌, ◌==◌, true, List, [], ◌∷◌, ◌++◌, Option, Some, None, MatchBool, slice_index_or, if◌then◌else◌}
 use Rattle.atomic_table.specs.Table.{Me, Step, rest}
 use Rattle.deck_core.specs.contract.Told.{Told}
 use Rattle.deck_core.specs.contract.Allowed.{is_allowed}

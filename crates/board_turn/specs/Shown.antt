@@ -1,5 +1,5 @@
 -- The configuration that a board shows: its words are the board's words, its phases and places those of the seats' views.
-use Rattle.std.specs.Prelude.{ℕ, ◌+◌, ◌-◌, Bool, true, false, List, [], Option, Some, None, slice_index_or}
+use Rattle.std.specs.Prelude.{ℕ, ◌+◌, ◌-◌, true, false, List, [], Some, None, slice_index_or}
 use Rattle.deck_core.specs.contract.Told.{Told, told_of}
 use Rattle.deck_core.specs.plain.NoteWords.{note_words}
 use Rattle.deck_core.specs.ticks.Configuration.{Configuration}
@@ -8,7 +8,7 @@ use Rattle.deck_core.specs.declared.plain.phase.Phase.TheVariants as phase
 use Rattle.deck_core.specs.declared.plain.phase.Place.TheVariants as place
 use Rattle.board_turn.specs.declared.view.Standing.{Standing}
 use Rattle.board_turn.specs.declared.view.View.{View}
-use Rattle.board_turn.specs.declared.words.TheConstants.{TURN, MASTER, GATE, NOTES, OWN}
+use Rattle.board_turn.specs.declared.words.TheConstants.{TURN, MASTER, GATE, OWN}
 
 -- a word of the board
 abbrev pub word : List ℕ → ℕ → ℕ

@@ -1,5 +1,5 @@
 -- For each kind of step: what the board shows after it is the tick of what it showed before, or the same.
-use Rattle.std.specs.Prelude.{◌≡◌, ℕ, suc, ◌+◌, ◌<◌, ◌++◌, Bool, true, List, [], ◌∷◌, length, slice_set}
+use Rattle.std.specs.Prelude.{◌≡◌, ℕ, suc, ◌+◌, ◌<◌, ◌++◌, true, List, [], ◌∷◌, length, slice_set}
 use Rattle.deck_core.specs.contract.Told.{Told}
 use Rattle.deck_core.specs.plain.Words.{turn_word, mask_of}
 use Rattle.deck_core.specs.ticks.NextPhase.{is_transaction}

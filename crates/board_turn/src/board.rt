@@ -53,11 +53,12 @@ pub struct Seated<B: Bus> {
     pub first: Pass<B>,
 }
 
-/// The bus out of its place, and its notes as they were loaded. It is for the hart that holds the turn.
+/// The bus out of its place, and its notes as they were loaded. It is for the hart that holds the turn, and has no
+/// call of its own: the bus is called by `give` alone.
 #[derive(Drop)]
 pub struct Held<B> {
-    pub bus: B,
-    pub notes: [u64; NOTE_WORDS],
+    pub(crate) bus: B,
+    pub(crate) notes: [u64; NOTE_WORDS],
 }
 
 /// The turn could not be had: the word that was found.

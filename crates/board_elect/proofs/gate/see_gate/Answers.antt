@@ -1,6 +1,5 @@
-use Rattle.std.proofs.Common.{◌≡◌, suc, ◌∙◌, ap, arith, sym}
-use Rattle.deck_core.specs.decks.Seat.{clears, sees_gate}
-use Rattle.deck_core.specs.ticks.NextPhase.{is_transaction}
+use Rattle.std.proofs.Common.{◌∙◌, ap, arith}
+use Rattle.deck_core.specs.decks.Seat.{sees_gate}
 use Rattle.board_elect.proofs.Elects.{sees_out}
 use Rattle.board_elect.proofs.Rights.{see_allowed}
 use Rattle.board_elect.proofs.gate.see_gate.Goals as goal

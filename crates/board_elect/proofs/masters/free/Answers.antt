@@ -1,5 +1,4 @@
-use Rattle.std.proofs.Common.{◌≡◌, suc, ◌∙◌, ap, arith, sym}
-use Rattle.deck_core.specs.decks.Seat.{clears, sees_gate}
+use Rattle.std.proofs.Common.{◌∙◌, ap, arith}
 use Rattle.deck_core.specs.ticks.NextPhase.{is_transaction}
 use Rattle.board_elect.proofs.Rights.{free_allowed}
 use Rattle.board_elect.proofs.masters.free.Goals as goal

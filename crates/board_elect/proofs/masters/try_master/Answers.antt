@@ -1,5 +1,4 @@
 use Rattle.std.proofs.Common.{◌≡◌, suc, ◌+◌, ◌∙◌, ap, arith, sym}
-use Rattle.deck_core.specs.decks.Seat.{clears, sees_gate}
 use Rattle.deck_core.specs.ticks.NextPhase.{is_transaction}
 use Rattle.board_elect.proofs.Rights.{try_at}
 use Rattle.board_elect.proofs.masters.try_master.Goals as goal

@@ -1,10 +1,5 @@
-use Rattle.std.proofs.Common.{◌≡◌, ◌∙◌, ap, arith, refl, subst, sym, Some, None}
-use mathlib.Core.Option.{some, some-injective}
-use Rattle.deck_core.specs.ticks.NextPhase.{is_transaction}
-use Rattle.deck_core.specs.ticks.Phases.{is_finished}
-use Rattle.std.specs.Slots.{slots_items}
+use Rattle.std.proofs.Common.{◌∙◌, ap, refl, subst, sym, None}
 use Rattle.board_turn.specs.Rule.{IsOrigin}
-use Rattle.board_turn.specs.declared.view.Slot.{Slot}
 use Rattle.board_turn.proofs.Readies.{first_of}
 use Rattle.board_turn.proofs.Seating.{bus_there, closed_ends, none_there}
 use Rattle.board_turn.proofs.board.Board.finish.Goals as goal

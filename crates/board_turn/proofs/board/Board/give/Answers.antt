@@ -1,4 +1,4 @@
-use Rattle.std.proofs.Common.{◌≡◌, ◌∙◌, ap, arith, sym, subst, List}
+use Rattle.std.proofs.Common.{◌∙◌, ap, arith, sym, subst}
 use Rattle.deck_core.specs.ticks.NextPhase.{act_of, is_transaction}
 use Rattle.deck_core.specs.ticks.Phases.{holds}
 use Rattle.deck_core.proofs.Flats.{acts_answer}

@@ -1,4 +1,4 @@
-use Rattle.std.proofs.Common.{◌≡◌, suc, ◌+◌, ◌-◌, ◌++◌, [], ◌∷◌, length, ◌∙◌, ap, arith, refl, subst, sym}
+use Rattle.std.proofs.Common.{◌≡◌, ◌+◌, ◌-◌, ◌++◌, [], ◌∷◌, length, ◌∙◌, ap, arith, subst}
 use Rattle.deck_core.specs.ticks.NextPhase.{is_transaction}
 use Rattle.board_turn.specs.Plays.{with_left}
 use Rattle.board_turn.specs.Ready.{AllDone, IsDone, out_with, start_of}

@@ -1,4 +1,4 @@
-use Rattle.std.proofs.Common.{◌≡◌, ◌∙◌, ap, arith, refl, subst, sym, Some, [], ◌∷◌, ◌++◌}
+use Rattle.std.proofs.Common.{◌≡◌, ◌∙◌, ap, subst, sym, Some, [], ◌∷◌, ◌++◌}
 use Rattle.deck_core.specs.declared.plain.act.Answer.TheVariants as answer
 use Rattle.board_turn.specs.Rule.{Ruled}
 use Rattle.board_turn.specs.Shown.{first_view, note}

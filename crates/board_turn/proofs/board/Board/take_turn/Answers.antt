@@ -1,4 +1,4 @@
-use Rattle.std.proofs.Common.{◌≡◌, suc, ◌∙◌, ap, arith, sym, refl}
+use Rattle.std.proofs.Common.{◌≡◌, suc, ◌∙◌, ap, arith, sym}
 use Rattle.deck_core.specs.plain.Words.{turn_word, mask_of}
 use Rattle.deck_core.specs.ticks.NextPhase.{is_transaction}
 use Rattle.board_turn.specs.Ready.{out_with}
