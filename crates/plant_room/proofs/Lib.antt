@@ -1,0 +1,4 @@
+pub mod Counts
+pub mod Falls
+pub mod Rooms
+pub mod Starts
