@@ -1,5 +1,5 @@
 -- The core from the outside: its machine, journal and transcript, and the origin that they come from.
-use Rattle.std.specs.Prelude.{◌≡◌, ℕ, ◌++◌, false, List, [], ◌∷◌, Some}
+use Rattle.std.specs.Prelude.{◌≡◌, ℕ, ◌-◌, ◌++◌, vec_len, vec_capacity, false, List, [], ◌∷◌, Some}
 use Rattle.mach_base.specs.declared.event.Entry.{Entry}
 use Rattle.mach_base.specs.declared.event.Ending.{Ending}
 use Rattle.atom_mach.specs.State.{hart_count}
@@ -22,6 +22,13 @@ entries_of c = c.journal.entries
 -- what they printed
 abbrev pub text_of : Core → List ℕ
 text_of c = c.transcript.items
+
+-- how many bytes more the journal has room for, and the transcript
+abbrev pub journal_room : Core → ℕ
+journal_room c = c.journal.spare
+
+abbrev pub text_room : Core → ℕ
+text_room c = vec_capacity c.transcript - vec_len c.transcript
 
 -- the core comes from this origin
 abbrev pub ComesFrom : Origin → Core → Type 0

@@ -19,4 +19,4 @@ mod outer;
 #[cfg(test)]
 mod tests;
 
-pub use outer::{ApplyFault, Core};
+pub use outer::{ApplyFault, Core, Room};

@@ -2,6 +2,9 @@
 ghost use Rattle.bus_core.specs.Inner.{machine_of as inner_machine};
 ghost use Rattle.bus_core.specs.Origin.{HasOrigin};
 
+mod reserved;
+mod seen;
+
 use crate::inner::Inner;
 use crate::inner::making::is_quiet;
 use atom_mach::{BANNER_BYTES, Script};
@@ -21,6 +24,13 @@ pub enum ApplyFault {
     /// The entry isn't legal now.
     NotLegal,
     OutOfMemory,
+}
+
+/// Room for so many bytes of the journal and of the transcript.
+#[derive(Clone, Copy, Debug, PartialEq, Eq)]
+pub struct Room {
+    pub journal: usize,
+    pub text: usize,
 }
 
 /// The planted machine with its journal and its transcript. Entries alone change it.
@@ -64,15 +74,11 @@ impl Core {
         ensures lost { IfOk result (λ core. core.lost ≡ false) }
         ensures origin { IfOk result (λ core. ComesFrom (record { image = image.now; symbols = names; lines = script; harts = harts; limit = limit }) core) }
     {
-        let _segments = image.segments();
-        let inner = Inner::start(alloc, image, names, script, harts, limit)?;
-        let journal = Packed::with_room(alloc, 0)?;
-        Ok(Core {
-            inner,
-            journal,
-            transcript: Vec::new(alloc),
-            lost: false,
-        })
+        let room = Room {
+            journal: 0,
+            text: 0,
+        };
+        Core::start_with_room(alloc, image, names, script, harts, limit, room)
     }
 
     /// Makes the entry. `NotLegal` comes exactly where it isn't legal, and then nothing is changed. `OutOfMemory` changes
@@ -114,8 +120,8 @@ impl Core {
         }
     }
 
-    /// The machine is in order, unless the core is lost.
-    fn keeps_order(&self)
+    /// The machine is in order, unless the core is lost. The call does nothing; its contract says so to callers.
+    pub fn keeps_order(&self)
         requires { self.now.lost ≡ false }
         ensures { ∥ IsOrderly (machine_of self.now) ∥₁ }
     {

@@ -33,6 +33,7 @@ impl Inner {
         requires order { ∥ IsOrderly (machine_of self.old) ∥₁ }
         requires room { vec_len out.old + BANNER_BYTES ≤ vec_capacity out.old }
         ensures done { IsDone (machine_of self.old) entry out.old.items out.new.items (machine_of self.new) }
+        ensures capacity { vec_capacity out.new ≡ vec_capacity out.old }
     {
         match entry {
             Entry::Step(hart) => self.make_step(out, hart),

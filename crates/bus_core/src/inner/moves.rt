@@ -48,6 +48,7 @@ impl Inner {
         requires legal { may (machine_of self.old) (Step hart) ≡ true }
         requires room { vec_len out.old + 1 ≤ vec_capacity out.old }
         ensures done { IsDone (machine_of self.old) (Step hart) out.old.items out.new.items (machine_of self.new) }
+        ensures capacity { vec_capacity out.new ≡ vec_capacity out.old }
     {
         let byte = self.execute(hart);
         put_console(out, byte);

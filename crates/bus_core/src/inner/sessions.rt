@@ -19,6 +19,7 @@ impl Inner {
         requires room { vec_len out.old + BANNER_BYTES ≤ vec_capacity out.old }
         ensures text { out.new.items ≡ out.old.items ++ (opened_for (machine_of self.old) master late (Some reason)).text }
         ensures next { machine_of self.new ≡ (opened_for (machine_of self.old) master late (Some reason)).next }
+        ensures capacity { vec_capacity out.new ≡ vec_capacity out.old }
     {
         let pc = self.context(master).pc;
         put_banner(out, late, master, reason, pc);
@@ -37,6 +38,7 @@ impl Inner {
         requires legal { may (machine_of self.old) (Open master late) ≡ true }
         requires room { vec_len out.old + BANNER_BYTES ≤ vec_capacity out.old }
         ensures done { IsDone (machine_of self.old) (Open master late) out.old.items out.new.items (machine_of self.new) }
+        ensures capacity { vec_capacity out.new ≡ vec_capacity out.old }
     {
         match self.reason_now(master, late) {
             Some(reason) => self.open(out, master, late, reason),
