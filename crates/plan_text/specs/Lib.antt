@@ -1,0 +1,4 @@
+pub mod Ticks
+pub mod Reading
+pub mod Grammar
+pub mod Left
