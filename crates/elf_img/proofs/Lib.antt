@@ -1,0 +1,5 @@
+pub mod Loads
+pub mod Orders
+pub mod Prefixes
+pub mod Causes
+pub mod Lines
