@@ -1,10 +1,13 @@
 -- Lines of a map, and how long they are.
-use Rattle.std.proofs.Common.{◌≡◌, ℕ, ◌+◌, List, [], ◌∷◌, ◌++◌, length, length-append, append_assoc, Option, Some, None, refl, ap, ◌∙◌, arith}
-use Rattle.std.specs.List.{flat_map}
+use Rattle.std.proofs.Common.{◌≡◌, ℕ, ◌+◌, ◌<◌, ◌≤◌, ◌&&◌, not, true, List, [], ◌∷◌, ◌++◌, length, length-append, append_assoc, Option, Some, None, refl, ap, ◌∙◌, arith}
+use Rattle.std.proofs.lemmas.Bool.{and_parts, leb-true}
+use Rattle.std.specs.Prelude.{nat_le}
+use Rattle.std.specs.List.{flat_map, list_all, AllByRecursion}
 use Rattle.std.specs.Option.{option_to_list}
 use Rattle.mach_base.specs.Number.{hex_text}
 use Rattle.sym_map.proofs.Digits.{length-hex_text}
 use Rattle.elf_img.specs.MapText.{MapSymbol, letter_of, symbol_line, map_text}
+use Rattle.elf_img.specs.Symbols.{is_graphic, is_made_up, is_listed_name}
 
 append_nil : {A : Type 0} (xs : List A) → xs ++ [] ≡ xs
 append_nil [] = refl
@@ -37,3 +40,18 @@ no_line o xs none = rw (none, append_nil xs) refl
 pub one_line : (o : Option MapSymbol) (s : MapSymbol) (xs ys : List ℕ) → o ≡ Some s → ys ≡ xs ++ symbol_line s → ys ≡ xs ++ map_text (option_to_list o)
 unfolding map_text
 one_line o s xs ys some more = rw (some, append_nil (symbol_line s)) more
+
+word_of : (bs : List ℕ) → list_all is_graphic bs ≡ true → AllByRecursion (λ b. 32 < b) bs
+word_of [] h = tt
+word_of (b ∷ bs) h =
+    let both = and_parts (is_graphic b) (list_all is_graphic bs) h in
+    let low = leb-true 0x21 b (and_parts (nat_le 0x21 b) (nat_le b 0x7e) both.0).0 in
+    (omega arith, word_of bs both.1)
+
+-- a name that goes into a map is a word
+pub listed_word : (name : List ℕ) → is_listed_name name ≡ true → AllByRecursion (λ b. 32 < b) name
+listed_word name listed = word_of name (and_parts (list_all is_graphic name) (not (is_made_up name)) listed).0
+
+pub listed_some : (name : List ℕ) → is_listed_name name ≡ true → 0 < length name
+listed_some [] listed = absurd (cc)
+listed_some (b ∷ bs) listed = omega arith

@@ -27,14 +27,14 @@ AreSegments-front ss ts all =
     record { bounds = all_front HasBounds ss ts all.bounds; order = order_front 0 ss ts all.order; few = omega arith; small = omega arith }
 
 -- filling up changes no segment
-segments-parts : (file : List ℕ) (hs : List ProgramHeader) → segments_of (map (part_of file) hs) ≡ map segment_of hs
-segments-parts file [] = refl
-segments-parts file (h ∷ hs) = ap (λ rest. segment_of h ∷ rest) (segments-parts file hs)
+pub segments_parts : (file : List ℕ) (hs : List ProgramHeader) → segments_of (map (part_of file) hs) ≡ map segment_of hs
+segments_parts file [] = refl
+segments_parts file (h ∷ hs) = ap (λ rest. segment_of h ∷ rest) (segments_parts file hs)
 
 -- the segments of the first loads and of the next one are those of an image
 pub next_segment : (file : List ℕ) (hs : List ProgramHeader) (i : ℕ) (d : ProgramHeader) (s : Segment) → i < length hs → s ≡ segment_of (get_or hs i d) → AreSegments (map segment_of hs) → AreSegments (segments_of (map (part_of file) (take i hs)) ++ s ∷ [])
 next_segment file hs i d s within found all =
-    rw (segments-parts file (take i hs)) (AreSegments-front (map segment_of (take i hs) ++ s ∷ []) (map segment_of (drop (i + 1) hs)) (subst AreSegments whole all))
+    rw (segments_parts file (take i hs)) (AreSegments-front (map segment_of (take i hs) ++ s ∷ []) (map segment_of (drop (i + 1) hs)) (subst AreSegments whole all))
   where
     front : map segment_of (take (i + 1) hs) ≡ map segment_of (take i hs) ++ s ∷ []
     front = ap (map segment_of) (take_more hs i d within) ∙ (map-append segment_of (take i hs) (get_or hs i d ∷ []) ∙ ap (λ (x : Segment). map segment_of (take i hs) ++ x ∷ []) (sym found))

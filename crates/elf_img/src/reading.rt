@@ -1,8 +1,11 @@
 //! Reading of a whole executable.
 
-ghost use Rattle.std.specs.Prelude.{◌≡◌, IfOk};
+ghost use Rattle.std.specs.Prelude.{◌≡◌, map, Ok, IsTrue, IfOk};
+ghost use Rattle.mem_map.specs.Parts.{segments_of};
+ghost use Rattle.img_text.specs.Reading.{has_text};
+ghost use Rattle.sym_map.specs.Reading.{symbols_of};
 ghost use Rattle.elf_img.specs.Causes.{Passes};
-ghost use Rattle.elf_img.specs.MapText.{map_text};
+ghost use Rattle.elf_img.specs.MapText.{map_text, named};
 ghost use Rattle.elf_img.specs.Segments.{elf_image};
 ghost use Rattle.elf_img.specs.Symbols.{symbols};
 ghost use Rattle.elf_img.specs.Reading.{causes};
@@ -29,7 +32,9 @@ pub struct Loaded {
 pub fn read_elf(alloc: Global, file: &[u8]) -> Result<Loaded, ElfFault>
     ensures checked { Passes result (causes file.now) }
     ensures image { IfOk result (λ loaded. loaded.image ≡ elf_image file.now) }
+    ensures text { IfOk result (λ loaded. IsTrue (has_text (segments_of loaded.image.parts))) }
     ensures map { IfOk result (λ loaded. loaded.map ≡ map_text (symbols file.now)) }
+    ensures reads { IfOk result (λ loaded. symbols_of loaded.map ≡ Ok (map named (symbols file.now))) }
 {
     check_header(file)?;
     let found = read_loads(alloc, file)?;

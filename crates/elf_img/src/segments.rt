@@ -1,6 +1,6 @@
 //! The segments of memory that a file's loads become, and the image that they make.
 
-ghost use Rattle.std.specs.Prelude.{◌≡◌, ◌+◌, ◌^◌, ◌<◌, ◌≤◌, true, length, map, OnOk, IfOk};
+ghost use Rattle.std.specs.Prelude.{◌≡◌, ◌+◌, ◌^◌, ◌<◌, ◌≤◌, true, length, map, IsTrue, OnOk, IfOk};
 ghost use Rattle.std.specs.List.{list_all, AllByRecursion};
 ghost use Rattle.mach_base.specs.Machine.{AreSegments, HasBounds, memory_size, is_text_segment};
 ghost use Rattle.img_text.specs.Reading.{has_text};
@@ -49,6 +49,7 @@ pub fn check_segments(segments: &[Segment]) -> Result<(), ElfFault>
     requires { AllByRecursion HasBounds segments.now }
     ensures passes { Passes result (segment_causes segments.now) }
     ensures rules { OnOk result (AreSegments segments.now) }
+    ensures text { OnOk result (IsTrue (has_text segments.now)) }
 {
     if !are_in_order(segments) {
         return Err(ElfFault::Bad(ElfWhy::Order));

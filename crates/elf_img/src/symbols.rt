@@ -1,12 +1,13 @@
 //! The symbols of a symbol table, and the map that they make.
 
-ghost use Rattle.std.specs.Prelude.{◌≡◌, ◌+◌, ◌*◌, ◌/◌, ◌^◌, ◌<◌, ◌≤◌, ◌==◌, ◌++◌, length, true, take, drop, position, IfOk, OnOk, IfSome};
-ghost use Rattle.std.specs.List.{list_all};
+ghost use Rattle.std.specs.Prelude.{◌≡◌, ◌+◌, ◌*◌, ◌/◌, ◌^◌, ◌<◌, ◌≤◌, ◌==◌, ◌++◌, [], length, map, true, take, drop, position, IfOk, OnOk, IfSome};
+ghost use Rattle.std.specs.List.{list_all, AllByRecursion};
 ghost use Rattle.std.specs.Option.{option_copied, option_to_list};
 ghost use Rattle.mach_base.specs.declared.limits.TheConstants.{ELF_BYTES};
 ghost use Rattle.elf_img.specs.Causes.{Passes};
 ghost use Rattle.elf_img.specs.Header.{has_sections};
-ghost use Rattle.elf_img.specs.MapText.{map_text};
+ghost use Rattle.sym_map.specs.Reading.{symbols_of};
+ghost use Rattle.elf_img.specs.MapText.{IsMapSymbol, map_text, named};
 ghost use Rattle.elf_img.specs.Symbols.{up_to_zero, name_at, is_graphic, is_made_up, is_listed_name, symbol_kind, is_listed, symbol_at, symbols_before, symbols, symbol_causes};
 
 use crate::bytes::{double_at, half_at, word_at};
@@ -39,13 +40,23 @@ pub fn read_map(alloc: Global, file: &[u8]) -> Result<Text, ElfFault>
     requires whole { has_sections file.now ≡ true }
     ensures passes { Passes result (symbol_causes (symbols file.now)) }
     ensures text { IfOk result (λ text. text ≡ map_text (symbols file.now)) }
+    ensures reads { IfOk result (λ text. symbols_of text ≡ Ok (map named (symbols file.now))) }
 {
     let headers = section_headers(alloc, file)?;
     let Some(table) = table_in(file, headers.as_slice()) else {
-        return Ok(Text::from_vec(Vec::new(alloc)));
+        return Ok(no_map(alloc));
     };
     let text = map_of(alloc, &table)?;
     Ok(text)
+}
+
+/// The map of no symbols.
+#[tactic(auto, using(crate::proofs::ReadBack::nothing_reads))]
+fn no_map(alloc: Global) -> Text
+    ensures text { result ≡ [] }
+    ensures reads { symbols_of result ≡ Ok [] }
+{
+    Text::from_vec(Vec::new(alloc))
 }
 
 /// The map of a table's symbols.
@@ -54,6 +65,7 @@ fn map_of(alloc: Global, table: &SymbolTable<'_>) -> Result<Text, ElfFault>
     requires short { length table.now.entries ≤ ELF_BYTES }
     ensures passes { Passes result (symbol_causes (symbols_before table.now (length table.now.entries / 24))) }
     ensures text { IfOk result (λ text. text ≡ map_text (symbols_before table.now (length table.now.entries / 24))) }
+    ensures reads { IfOk result (λ text. symbols_of text ≡ Ok (map named (symbols_before table.now (length table.now.entries / 24)))) }
 {
     let sizes = sizes_of(table);
     if sizes.symbols > MOST_SYMBOLS as u64 {
@@ -81,10 +93,17 @@ fn sizes_of(table: &SymbolTable<'_>) -> Sizes
         symbols: 0,
         bytes: 0,
     };
-    for i in 0..table.entries.len() / ENTRY_SIZE {
+    for i in 0..entry_count(table) {
         sizes = counted(table, i, sizes);
     }
     sizes
+}
+
+/// How many entries the table has; bytes behind its last whole entry mean nothing.
+fn entry_count(table: &SymbolTable<'_>) -> usize
+    ensures { result ≡ length table.now.entries / 24 }
+{
+    table.entries.len() / ENTRY_SIZE
 }
 
 /// The sizes with those of the symbol of one entry more.
@@ -110,10 +129,11 @@ fn counted(table: &SymbolTable<'_>, i: usize, sizes: Sizes) -> Sizes
 /// The lines of a table's symbols.
 #[tactic(auto, unfolding(crate::specs::Symbols::symbols_before, crate::specs::MapText::map_text))]
 fn text_of(alloc: Global, table: &SymbolTable<'_>, size: usize) -> Result<Text, OutOfMemory>
-    ensures { IfOk result (λ text. text ≡ map_text (symbols_before table.now (length table.now.entries / 24))) }
+    ensures text { IfOk result (λ text. text ≡ map_text (symbols_before table.now (length table.now.entries / 24))) }
+    ensures keep { OnOk result (AllByRecursion IsMapSymbol (symbols_before table.now (length table.now.entries / 24))) }
 {
     let mut out = Vec::with_capacity(alloc, size)?;
-    for i in 0..table.entries.len() / ENTRY_SIZE {
+    for i in 0..entry_count(table) {
         push_entry(&mut out, table, i)?;
     }
     Ok(Text::from_vec(out))
@@ -123,7 +143,8 @@ fn text_of(alloc: Global, table: &SymbolTable<'_>, size: usize) -> Result<Text, 
 #[tactic(auto, using(crate::proofs::Lines::no_line, crate::proofs::Lines::one_line))]
 fn push_entry(out: &mut Vec<u8>, table: &SymbolTable<'_>, i: usize) -> Result<(), OutOfMemory>
     requires { 24 * i + 24 ≤ length table.now.entries }
-    ensures { OnOk result (out.new.items ≡ out.old.items ++ map_text (option_to_list (symbol_at table.now i))) }
+    ensures text { OnOk result (out.new.items ≡ out.old.items ++ map_text (option_to_list (symbol_at table.now i))) }
+    ensures keep { OnOk result (AllByRecursion IsMapSymbol (option_to_list (symbol_at table.now i))) }
 {
     match symbol_at(table, i) {
         Some(symbol) => push_symbol(out, &symbol)?,
@@ -133,9 +154,11 @@ fn push_entry(out: &mut Vec<u8>, table: &SymbolTable<'_>, i: usize) -> Result<()
 }
 
 /// The symbol of an entry of the table, if it goes into the map.
+#[tactic(auto, using(crate::proofs::Lines::listed_word, crate::proofs::Lines::listed_some))]
 fn symbol_at<'a>(table: &SymbolTable<'a>, i: usize) -> Option<MapSymbol<'a>>
     requires { 24 * i + 24 ≤ length table.now.entries }
     ensures value { result ≡ symbol_at table.now i }
+    ensures keeps { IfSome result IsMapSymbol }
     ensures short { IfSome result (λ s. length s.name ≤ 255) }
 {
     let (entries, at) = (table.entries, ENTRY_SIZE * i);

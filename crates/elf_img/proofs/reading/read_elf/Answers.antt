@@ -5,6 +5,7 @@ use Rattle.mach_base.specs.Machine.{memory_size}
 use Rattle.elf_img.specs.Segments.{program_headers, loads, segments, segment_of, is_load}
 use Rattle.elf_img.proofs.Loads.{all_kept, segments_bounds, file_bytes_le}
 use Rattle.elf_img.proofs.Causes.{IsRightSoFar, HasRightSegments, wrong_header, wrong_programs, wrong_segments, wrong_sizes, wrong_symbols, nothing_wrong}
+use Rattle.elf_img.proofs.Prefixes.{segments_parts}
 use Rattle.elf_img.proofs.reading.read_elf.Goals as goal
 
 pub returns-in_err-check_header-clause-checked : goal.returns-in_err-check_header-clause-checked
@@ -63,3 +64,8 @@ returns-clause-checked c =
     let before : IsRightSoFar c.args.file.now = record { header = c.in_ok-check_header.ensures.passes; programs = c.in_ok-found.ensures.passes } in
     let right : HasRightSegments c.args.file.now = record { before = before; segments = rw made at c.in_ok-check_segments.ensures.passes; sizes = rw same at c.in_ok-check_sizes.ensures } in
     nothing_wrong c.args.file.now right c.in_ok-map.ensures.passes
+
+pub returns-clause-text : goal.returns-clause-text
+returns-clause-text c =
+    let made : c.as_slice-segments.result.now ≡ map segment_of c.as_slice-loads.result.now = c.as_slice-segments.ensures.value ∙ c.in_ok-made.ensures in
+    rw (c.in_ok-image.ensures, segments_parts c.args.file.now c.as_slice-loads.result.now) (rw made at c.in_ok-check_segments.ensures.text)
