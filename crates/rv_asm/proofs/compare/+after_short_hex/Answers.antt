@@ -1,0 +1,22 @@
+use Rattle.std.proofs.Common.{rules, ◌/◌, ◌%◌, [], ◌∷◌, false, ap, arith}
+use Rattle.std.specs.Char.{digit_char}
+use Rattle.std.specs.Fmt.{digits}
+use Rattle.rv_asm.specs.Rest.{after}
+use Rattle.rv_asm.proofs.Digits.{one_hex, more_hex}
+use Rattle.rv_asm.proofs.Rest.{none_after, some_after, same_answer, no_answer}
+use Rattle.rv_asm.proofs.compare.+after_short_hex.Goals as goal
+
+pub returns-then-number-lt16 : goal.returns-then-number-lt16
+returns-then-number-lt16 t c =
+    let n = c.args.number in
+    same_answer _ _ c.after_digit.result (ap (λ x. after x c.args.line.now) (one_hex n c.if-number-lt16.true)) c.after_digit.ensures
+
+pub returns-in_err-rest : goal.returns-in_err-rest
+returns-in_err-rest t c =
+    let n = c.args.number in
+    no_answer _ c.from_residual.result (none_after (digits 16 false n) (digits 16 false (n / 16)) (digit_char (n % 16) ∷ []) c.args.line.now (more_hex n (omega arith) (omega arith)) c.in_err-rest.ensures) (search rules)
+
+pub returns : goal.returns
+returns t c =
+    let n = c.args.number in
+    same_answer _ _ c.after_digit-2.result (some_after (digits 16 false n) (digits 16 false (n / 16)) (digit_char (n % 16) ∷ []) c.args.line.now c.in_ok-rest.rest.now (more_hex n (omega arith) (omega arith)) c.in_ok-rest.ensures) c.after_digit-2.ensures

@@ -1,0 +1,4 @@
+pub mod Meant
+pub mod Parts
+pub mod Rest
+pub mod Spelling
