@@ -3,3 +3,4 @@ pub mod Numbers
 pub mod Masks
 pub mod Meaning
 pub mod Lines
+pub mod Unique

@@ -11,6 +11,7 @@
 mod cuts;
 mod fault;
 mod journal;
+mod laws;
 mod loose;
 mod spelled;
 #[cfg(test)]
@@ -18,3 +19,4 @@ mod tests;
 
 pub use fault::JournalFault;
 pub use journal::{Journal, read_journal, write_journal};
+pub use laws::texts_mean_one_thing;
