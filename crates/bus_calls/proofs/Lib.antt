@@ -1,0 +1,9 @@
+pub mod Facts
+pub mod Sets
+pub mod Turns
+pub mod Gives
+pub mod Making
+pub mod Ranges
+pub mod Done
+pub mod Ended
+pub mod Seen

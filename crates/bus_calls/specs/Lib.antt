@@ -1,0 +1,4 @@
+pub mod Running
+pub mod Bus
+pub mod Calls
+pub mod Facts
