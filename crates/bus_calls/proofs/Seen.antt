@@ -2,13 +2,15 @@
 use Rattle.std.proofs.Common.{◌≡◌, ℕ, suc, ◌+◌, ◌-◌, ◌*◌, ◌<◌, ◌≤◌, ◌&&◌, ◌||◌, Bool, true, false, cond, List, length, Option, Some, None, is_some, nat_lt, refl, sym, ap, subst, ◌∙◌, arith}
 use Rattle.std.proofs.Math.Logic.{∥∥₁_elim}
 use Rattle.std.proofs.Math.Bool.{Bool-set}
-use Rattle.std.proofs.lemmas.Bool.{ltb-true, lt-ltb}
+use Rattle.std.proofs.lemmas.Bool.{ltb-true}
+use Rattle.std.proofs.lemmas.List.FromFn.{length-map-range_with_len}
 use Rattle.mach_base.specs.Machine.{Symbol}
 use Rattle.mach_base.specs.declared.event.Hart.{Hart}
 use Rattle.mach_base.specs.declared.event.Fault.{Fault}
 use Rattle.mach_base.specs.declared.event.Entry.TheVariants as entry
 use Rattle.mach_base.specs.declared.event.Ending.TheVariants.{ScriptEnd}
 use Rattle.img_text.specs.Image.{ImageRecord}
+use Rattle.img_text.specs.Boot.{first_context}
 use Rattle.deck_core.specs.declared.plain.act.Act.TheVariants as act
 use Rattle.deck_core.specs.declared.plain.notes.Notes.{Notes}
 use Rattle.deck_core.specs.contract.Told.{Told, told_of as told_from}
@@ -98,3 +100,7 @@ start_running law c image symbols lines harts limit count journal text same star
       journal = subst (λ (p : PlantedMachine). bytes_left (record { machine = p; sends = 0; stepped = false; released = false }) ≤ journal_room c) (sym start) (omega (arith, law.bytes image symbols lines harts limit, most_here, enough));
       text = subst (λ (p : PlantedMachine). text_left (record { machine = p; sends = 0; stepped = false; released = false }) ≤ text_room c) (sym start) (omega (arith, law.text image symbols lines harts limit, longest, same, wide));
     }
+
+pub start_harts : (b : CoreBus) (image : ImageRecord) (symbols : List Symbol) (lines : List (List ℕ)) (harts limit : ℕ) → machine_of b.core ≡ planted_start image symbols lines harts limit → (told b).harts ≡ harts
+unfolding planted_start start_state
+start_harts b image symbols lines harts limit start = harts_told b ∙ ap (λ (p : PlantedMachine). hart_count p.machine) start ∙ length-map-range_with_len (first_context image) 0 harts

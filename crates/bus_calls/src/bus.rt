@@ -73,6 +73,7 @@ impl CoreBus {
         requires high { limit ≤ MOST_STEPS }
         ensures machine { IfOk result (λ bus. machine_of bus.core ≡ planted_start image.now names script harts limit) }
         ensures opening { IfOk result (λ bus. IsOpening (told bus)) }
+        ensures harts { IfOk result (λ bus. (told bus).harts ≡ harts) }
         ensures origin { IfOk result (λ bus. ComesFrom (record { image = image.now; symbols = names; lines = script; harts = harts; limit = limit }) bus.core) }
     {
         starts_have_room();

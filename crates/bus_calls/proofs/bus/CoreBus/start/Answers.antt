@@ -1,7 +1,7 @@
 use Rattle.std.proofs.Common.{◌≡◌, refl, arith}
 use Rattle.std.proofs.lemmas.Nat.{pow_pos}
 use Rattle.bus_calls.proofs.Ranges.{in_range, opens}
-use Rattle.bus_calls.proofs.Seen.{start_running}
+use Rattle.bus_calls.proofs.Seen.{start_running, start_harts}
 use Rattle.bus_calls.proofs.bus.CoreBus.start.Goals as goal
 
 pub invariant_of-result : goal.invariant_of-result
@@ -20,3 +20,6 @@ returns-clause-opening c =
     let core = c.in_ok-core.ensures in
     let bounds = c.keeps_bounds.ensures in
     opens _ c.args.image.now c.args.names c.args.script c.args.harts c.args.limit core.machine core.lost refl refl refl (in_range _ bounds.some_harts bounds.few_harts bounds.lines bounds.seated)
+
+pub returns-clause-harts : goal.returns-clause-harts
+returns-clause-harts c = start_harts _ c.args.image.now c.args.names c.args.script c.args.harts c.args.limit c.in_ok-core.ensures.machine
