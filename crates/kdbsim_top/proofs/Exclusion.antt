@@ -1,89 +1,172 @@
 -- The causes exclude each other, and right files leave the end of the run.
-use Rattle.std.proofs.Common.{◌≡◌, ℕ, ◌⊎◌, inl, inr, List, [], ◌∷◌, Option, Some, None, refl, sym, ap, ◌∙◌, subst, unwrap_or}
+use Rattle.std.proofs.Common.{◌≡◌, ℕ, ◌⊎◌, inl, inr, List, [], ◌∷◌, Option, Some, None, refl, sym, ap, ◌∙◌, subst}
 use Rattle.mach_base.specs.declared.event.Ending.{Ending}
-use Rattle.io_edge.specs.Edge.{FileMap, HasRisen, bytes_of}
-use Rattle.kdbsim_top.specs.declared.status.File.{File}
-use Rattle.kdbsim_top.specs.declared.status.File.TheVariants.{Image, Script}
-use Rattle.kdbsim_top.specs.declared.status.Status.{Status}
-use Rattle.kdbsim_top.specs.declared.status.Status.TheVariants.{Done, Usage, ReadFault, BadImage, BadScript, TooLarge, WriteFault, OutOfMemory}
-use Rattle.kdbsim_top.specs.Words.{Command}
-use Rattle.kdbsim_top.specs.Files.{FailsAt, FailsAtFile, Inputs, IsRead, IsRefused, refusal}
-use Rattle.kdbsim_top.specs.Causes.{Explains, IsUniRun, Outside, inputs_of}
-use Rattle.kdbsim_top.specs.Laws.{AreRight, IsDoneOrMemory, IsOfFiles, IsRefusal, RefusalsExclude, RightFilesEnd}
+use Rattle.io_edge.specs.Edge.{FileMap, HasRisen}
+use Rattle.program_words.specs.Commands.{Command, uni, replay, run, lockstep}
+use Rattle.kdbsim_files.specs.declared.status.Status.{Status}
+use Rattle.kdbsim_files.specs.declared.status.Status.TheVariants.{Done, Usage, ReadFault, BadImage, BadMap, BadScript, BadPlan, BadJournal, TooLarge, BadStep, WriteFault, OutOfMemory}
+use Rattle.kdbsim_files.specs.Faults.{status_of_image, status_of_map, status_of_script, status_of_plan, status_of_journal}
+use Rattle.img_text.specs.declared.fault.ImageFault.{ImageFault}
+use Rattle.img_text.specs.declared.fault.ImageFault.TheVariants as image_faults
+use Rattle.sym_map.specs.declared.fault.MapFault.{MapFault}
+use Rattle.sym_map.specs.declared.fault.MapFault.TheVariants as map_faults
+use Rattle.atom_mach.specs.declared.script.ScriptFault.{ScriptFault}
+use Rattle.atom_mach.specs.declared.script.ScriptFault.TheVariants as script_faults
+use Rattle.plan_text.specs.declared.fault.PlanFault.{PlanFault}
+use Rattle.plan_text.specs.declared.fault.PlanFault.TheVariants as plan_faults
+use Rattle.jrn_text.specs.declared.fault.JournalFault.{JournalFault}
+use Rattle.jrn_text.specs.declared.fault.JournalFault.TheVariants as journal_faults
+use Rattle.kdbsim_files.specs.Files.{Input, Kind, image_file, map_file, script_file, plan_file, journal_file, Value, HasFile, FailsAt, FailsAtFile, Refuses, RefusesText}
+use Rattle.kdbsim_files.specs.Laws.{IsRefusal, FilesMeanOneThing, RefusalsAreOne}
+use Rattle.kdbsim_files.proofs.Meaning.{refused_by}
+use Rattle.kdbsim_top.specs.Runs.{Outcome, IsOutcome, IsIllegal, inputs_of}
+use Rattle.kdbsim_top.specs.Causes.{Outside, Explains, IsPublished}
+use Rattle.kdbsim_top.specs.Laws.{AreRight, IsEnd, IsOfFiles, RefusalsExclude, RightFilesEnd}
 
-read-of : (files : FileMap) (file : File) (name bytes : List ℕ) → IsRead (Some files) file name bytes → refusal file (bytes_of files name) ≡ None
-read-of files file name bytes read = ap (refusal file) (sym read.told) ∙ read.right
+-- a run's files are right
+outcome_right : (files : Option FileMap) (command : Command) (out : Outcome) → IsOutcome files command out → AreRight files (inputs_of command)
+outcome_right files (uni image script) out h = ((h.value, h.read_image), ((h.lines, h.read_script), tt))
+outcome_right files (replay image map script journal) out h =
+    let s = h.inputs.inputs in
+    ((h.start.image, s.read_image), ((h.start.symbols, s.read_map), ((h.start.lines, s.read_script), ((record { harts = h.start.harts; limit = h.start.limit; entries = h.entries }, h.inputs.read_journal), tt))))
+outcome_right files (run image map script journal options) out h =
+    let s = h.recorded.inputs in
+    ((h.start.image, s.read_image), ((h.start.symbols, s.read_map), ((h.start.lines, s.read_script), tt)))
+outcome_right files (lockstep image map script plan journal options) out h =
+    let s = h.recorded.inputs in
+    ((h.start.image, s.read_image), ((h.start.symbols, s.read_map), ((h.start.lines, s.read_script), ((h.runs, h.read_plan), tt))))
 
-refused-of : (files : FileMap) (file : File) (name : List ℕ) (status : Status) → IsRefused (Some files) file name status → refusal file (bytes_of files name) ≡ Some status
-refused-of files file name status h = ap (refusal file) (sym h.told) ∙ h.refused
-
-fails-of : (files : FileMap) (file : File) (name : List ℕ) (before after : ℕ) (status : Status) → IsRefusal status → FailsAtFile (Some files) file name before after status → refusal file (bytes_of files name) ≡ Some status
-fails-of files file name before after (BadImage line why) is h = refused-of files file name (BadImage line why) h
-fails-of files file name before after (BadScript line) is h = refused-of files file name (BadScript line) h
-fails-of files file name before after (TooLarge what size) is h = refused-of files file name (TooLarge what size) h
-fails-of files file name before after (Done ending) is h = absurd is
-fails-of files file name before after Usage is h = absurd is
-fails-of files file name before after (ReadFault failed) is h = absurd is
-fails-of files file name before after WriteFault is h = absurd is
-fails-of files file name before after OutOfMemory is h = absurd is
-
-same_status : (s t : Status) (o : Option Status) → o ≡ Some s → o ≡ Some t → s ≡ t
-same_status s t o a b = ap (λ (x : Option Status). unwrap_or x s) (sym a ∙ b)
-
-not_both : (s : Status) (o : Option Status) → o ≡ Some s → o ≡ None → ⊥
-not_both s o a b = let e : Some s ≡ None = sym a ∙ b in cc
-
-exclude : (files : FileMap) (inputs : Inputs) (before after : ℕ) (s t : Status) → IsRefusal s → IsRefusal t → FailsAt (Some files) inputs before after s → FailsAt (Some files) inputs before after t → s ≡ t
-exclude files [] before after s t is it hs ht = absurd hs
-exclude files (input ∷ inputs) before after s t is it (inl a) (inl b) =
-    same_status s t (refusal input.0 (bytes_of files input.1)) (fails-of files input.0 input.1 before after s is a) (fails-of files input.0 input.1 before after t it b)
-exclude files (input ∷ inputs) before after s t is it (inl a) (inr b) =
-    absurd (not_both s (refusal input.0 (bytes_of files input.1)) (fails-of files input.0 input.1 before after s is a) (read-of files input.0 input.1 b.0 b.1))
-exclude files (input ∷ inputs) before after s t is it (inr a) (inl b) =
-    absurd (not_both t (refusal input.0 (bytes_of files input.1)) (fails-of files input.0 input.1 before after t it b) (read-of files input.0 input.1 a.0 a.1))
-exclude files (input ∷ inputs) before after s t is it (inr a) (inr b) = exclude files inputs before after s t is it a.2 b.2
+illegal_right : (files : Option FileMap) (command : Command) (index : ℕ) → IsIllegal files command index → AreRight files (inputs_of command)
+illegal_right files (uni image script) index h = absurd h
+illegal_right files (replay image map script journal) index h =
+    let s = h.inputs.inputs in
+    ((h.start.image, s.read_image), ((h.start.symbols, s.read_map), ((h.start.lines, s.read_script), ((record { harts = h.start.harts; limit = h.start.limit; entries = h.entries }, h.inputs.read_journal), tt))))
+illegal_right files (run image map script journal options) index h = absurd h
+illegal_right files (lockstep image map script plan journal options) index h = absurd h
 
 -- right files are not refused
-no_refusal : (files : FileMap) (command : Command) (before after : ℕ) (s : Status) → AreRight files command → IsRefusal s → FailsAt (Some files) (inputs_of command) before after s → ⊥
-no_refusal files command before after s right is (inl a) = not_both s (refusal Image (bytes_of files command.image)) (fails-of files Image command.image before after s is a) right.0
-no_refusal files command before after s right is (inr b) =
-    elim b.2 [
-      | inl c ↦ not_both s (refusal Script (bytes_of files command.script)) (fails-of files Script command.script before after s is c) right.1
-      | inr c ↦ c.2
+no_refusal : FilesMeanOneThing → (files : FileMap) (inputs : List Input) (before after : ℕ) (s : Status) → IsRefusal s → AreRight (Some files) inputs → FailsAt (Some files) inputs before after s → ⊥
+no_refusal law files [] before after s is right h = h
+no_refusal law files (input ∷ inputs) before after s is right (inl h) =
+    law.right files input.kind input.name right.0.0 s is right.0.1 (refused_by (Some files) input.kind input.name before after s is h)
+no_refusal law files (input ∷ inputs) before after s is right (inr h) = no_refusal law files inputs before after s is right.1 h.2
+
+-- a refusal is that of a file
+published_not : (o : Outside) (out : Outcome) (s : Status) → IsRefusal s → IsPublished o out s → ⊥
+published_not o out s is (inl h) = subst IsRefusal h.0 is
+published_not o out s is (inr (inl h)) = subst IsRefusal h.0 is
+published_not o out s is (inr (inr h)) = subst IsRefusal h.0 is
+
+fails_of : (o : Outside) (command : Command) (s : Status) → IsRefusal s → Explains o command s → FailsAt o.files_before (inputs_of command) o.shelf_before o.shelf_after s
+fails_of o command s is (inl h) = absurd (published_not o h.0 s is h.2)
+fails_of o command s is (inr (inl h)) = absurd (subst IsRefusal h.1 is)
+fails_of o command s is (inr (inr h)) = h.0
+
+told_fails : (o : Outside) (command : Command) (files : FileMap) (s : Status) → o.files_before ≡ Some files → IsRefusal s → Explains o command s → FailsAt (Some files) (inputs_of command) o.shelf_before o.shelf_after s
+told_fails o command files s told is h = subst (λ fs. FailsAt fs (inputs_of command) o.shelf_before o.shelf_after s) told (fails_of o command s is h)
+
+-- a refusal of a file, or that memory ran out
+abbrev IsOfReading : Status → Type 0
+IsOfReading OutOfMemory = Unit {0}
+IsOfReading other = IsRefusal other
+
+image_reading : (fault : ImageFault) → IsOfReading (status_of_image fault)
+image_reading (image_faults.Bad line why) = tt
+image_reading (image_faults.TooLarge what size) = tt
+image_reading image_faults.OutOfMemory = tt
+
+map_reading : (fault : MapFault) → IsOfReading (status_of_map fault)
+map_reading (map_faults.Bad line) = tt
+map_reading (map_faults.TooLarge what size) = tt
+map_reading map_faults.OutOfMemory = tt
+
+script_reading : (fault : ScriptFault) → IsOfReading (status_of_script fault)
+script_reading (script_faults.Bad line) = tt
+script_reading (script_faults.TooLarge what size) = tt
+script_reading script_faults.OutOfMemory = tt
+
+plan_reading : (fault : PlanFault) → IsOfReading (status_of_plan fault)
+plan_reading (plan_faults.Bad line) = tt
+plan_reading (plan_faults.TooLarge what size) = tt
+plan_reading plan_faults.OutOfMemory = tt
+
+journal_reading : (fault : JournalFault) → IsOfReading (status_of_journal fault)
+journal_reading (journal_faults.Bad line) = tt
+journal_reading (journal_faults.TooLarge what size) = tt
+journal_reading journal_faults.OutOfMemory = tt
+
+text_reading : (kind : Kind) (bytes : List ℕ) (s : Status) → RefusesText kind bytes s → IsOfReading s
+text_reading image_file bytes s h = subst IsOfReading (sym h.2) (image_reading h.0)
+text_reading map_file bytes s h = subst IsOfReading (sym h.2) (map_reading h.0)
+text_reading script_file bytes s h = subst IsOfReading (sym h.2) (script_reading h.0)
+text_reading (plan_file harts) bytes s h = subst IsOfReading (sym h.2) (plan_reading h.0)
+text_reading journal_file bytes s h = subst IsOfReading (sym h.2) (journal_reading h.0)
+
+refused_reading : (kind : Kind) (bytes : List ℕ) (s : Status) → Refuses kind bytes s → IsOfReading s
+refused_reading kind bytes s (inl h) = subst IsOfReading (sym h.0) tt
+refused_reading kind bytes s (inr h) = text_reading kind bytes s h.1
+
+refusal_of : (s : Status) → IsOfReading s → IsRefusal s ⊎ (s ≡ OutOfMemory)
+refusal_of (Done ending) h = inl h
+refusal_of (BadStep index) h = inl h
+refusal_of Usage h = inl h
+refusal_of (ReadFault file) h = inl h
+refusal_of (BadImage line why) h = inl h
+refusal_of (BadMap line) h = inl h
+refusal_of (BadScript line) h = inl h
+refusal_of (BadPlan line) h = inl h
+refusal_of (BadJournal line) h = inl h
+refusal_of (TooLarge what size) h = inl h
+refusal_of WriteFault h = inl h
+refusal_of OutOfMemory h = inr refl
+
+-- an answer that the files give, where a file fails, is a refusal
+file_refusal : (files : Option FileMap) (input : Input) (before after : ℕ) (s : Status) → IsOfFiles s → FailsAtFile files input.kind input.name before after s → IsRefusal s
+file_refusal files input before after s is (inl h) = absurd (subst IsOfFiles h.0 is)
+file_refusal files input before after s is (inr (inr h)) = absurd (subst IsOfFiles h is)
+file_refusal files input before after s is (inr (inl h)) =
+    elim (refusal_of s (refused_reading input.kind h.bytes s h.refused)) [
+      | inl refusal ↦ refusal
+      | inr memory ↦ absurd (subst IsOfFiles memory is)
     ]
 
-fails_in : (o : Outside) (command : Command) (files : FileMap) (s : Status) → o.files ≡ Some files → IsRefusal s → Explains o command s → FailsAt (Some files) (inputs_of command) o.shelf_before o.shelf_after s
-fails_in o command files (BadImage line why) told is h = subst (λ fs. FailsAt fs (inputs_of command) o.shelf_before o.shelf_after (BadImage line why)) told h
-fails_in o command files (BadScript line) told is h = subst (λ fs. FailsAt fs (inputs_of command) o.shelf_before o.shelf_after (BadScript line)) told h
-fails_in o command files (TooLarge what size) told is h = subst (λ fs. FailsAt fs (inputs_of command) o.shelf_before o.shelf_after (TooLarge what size)) told h
-fails_in o command files (Done ending) told is h = absurd is
-fails_in o command files Usage told is h = absurd is
-fails_in o command files (ReadFault failed) told is h = absurd is
-fails_in o command files WriteFault told is h = absurd is
-fails_in o command files OutOfMemory told is h = absurd is
+refusal_in : (files : Option FileMap) (inputs : List Input) (before after : ℕ) (s : Status) → IsOfFiles s → FailsAt files inputs before after s → IsRefusal s
+refusal_in files [] before after s is h = absurd h
+refusal_in files (input ∷ inputs) before after s is (inl h) = file_refusal files input before after s is h
+refusal_in files (input ∷ inputs) before after s is (inr h) = refusal_in files inputs before after s is h.2
 
-run_right : (files : FileMap) (command : Command) (ending : Ending) (text : List ℕ) → IsUniRun (Some files) command ending text → AreRight files command
-run_right files command ending text run = (read-of files Image command.image run.read_image.bytes run.read_image.read, read-of files Script command.script run.read_script.bytes run.read_script.read)
+pub refusals_exclude : FilesMeanOneThing → RefusalsAreOne → RefusalsExclude
+refusals_exclude law one o command files s t told is it hs (inl ran) =
+    absurd (no_refusal law files (inputs_of command) o.shelf_before o.shelf_after s is (subst (λ fs. AreRight fs (inputs_of command)) told (outcome_right o.files_before command ran.0 ran.1)) (told_fails o command files s told is hs))
+refusals_exclude law one o command files s t told is it hs (inr (inl illegal)) =
+    absurd (no_refusal law files (inputs_of command) o.shelf_before o.shelf_after s is (subst (λ fs. AreRight fs (inputs_of command)) told (illegal_right o.files_before command illegal.0 illegal.2)) (told_fails o command files s told is hs))
+refusals_exclude law one o command files s t told is it hs (inr (inr other)) =
+    let fails : FailsAt (Some files) (inputs_of command) o.shelf_before o.shelf_after t = subst (λ fs. FailsAt fs (inputs_of command) o.shelf_before o.shelf_after t) told other.0 in
+    one files (inputs_of command) o.shelf_before o.shelf_after s t is (refusal_in (Some files) (inputs_of command) o.shelf_before o.shelf_after t it fails) (told_fails o command files s told is hs) fails
 
-pub refusals_exclude : RefusalsExclude
-refusals_exclude o command files s (Done ending) told is it hs ht =
-    absurd (no_refusal files command o.shelf_before o.shelf_after s (run_right files command ending ht.0 (subst (λ fs. IsUniRun fs command ending ht.0) told ht.1)) is (fails_in o command files s told is hs))
-refusals_exclude o command files s (BadImage line why) told is it hs ht = exclude files (inputs_of command) o.shelf_before o.shelf_after s (BadImage line why) is it (fails_in o command files s told is hs) (fails_in o command files (BadImage line why) told it ht)
-refusals_exclude o command files s (BadScript line) told is it hs ht = exclude files (inputs_of command) o.shelf_before o.shelf_after s (BadScript line) is it (fails_in o command files s told is hs) (fails_in o command files (BadScript line) told it ht)
-refusals_exclude o command files s (TooLarge what size) told is it hs ht = exclude files (inputs_of command) o.shelf_before o.shelf_after s (TooLarge what size) is it (fails_in o command files s told is hs) (fails_in o command files (TooLarge what size) told it ht)
-refusals_exclude o command files s Usage told is it hs ht = absurd it
-refusals_exclude o command files s (ReadFault failed) told is it hs ht = absurd it
-refusals_exclude o command files s WriteFault told is it hs ht = absurd it
-refusals_exclude o command files s OutOfMemory told is it hs ht = absurd it
+-- where no count rises and the files are right, only memory fails
+right_file : FilesMeanOneThing → (files : FileMap) (input : Input) (value : Value input.kind) (before after : ℕ) (s : Status) → ¬ (HasRisen before after) → HasFile (Some files) input.kind input.name value → FailsAtFile (Some files) input.kind input.name before after s → s ≡ OutOfMemory
+right_file law files input value before after s still right (inl h) = absurd (still h.1)
+right_file law files input value before after s still right (inr (inr h)) = h
+right_file law files input value before after s still right (inr (inl h)) =
+    elim (refusal_of s (refused_reading input.kind h.bytes s h.refused)) [
+      | inl is ↦ absurd (law.right files input.kind input.name value s is right h)
+      | inr memory ↦ memory
+    ]
 
-pub right_files_end : RightFilesEnd
-right_files_end o command files (Done ending) told right shelf sink h = tt
-right_files_end o command files OutOfMemory told right shelf sink h = tt
-right_files_end o command files WriteFault told right shelf sink h = sink h.4
-right_files_end o command files (BadImage line why) told right shelf sink h = no_refusal files command o.shelf_before o.shelf_after (BadImage line why) right tt (fails_in o command files (BadImage line why) told tt h)
-right_files_end o command files (BadScript line) told right shelf sink h = no_refusal files command o.shelf_before o.shelf_after (BadScript line) right tt (fails_in o command files (BadScript line) told tt h)
-right_files_end o command files (TooLarge what size) told right shelf sink h = no_refusal files command o.shelf_before o.shelf_after (TooLarge what size) right tt (fails_in o command files (TooLarge what size) told tt h)
-right_files_end o command files Usage told right shelf sink (inl a) = a
-right_files_end o command files Usage told right shelf sink (inr b) = elim b.2 [ inl c ↦ c | inr c ↦ c.2 ]
-right_files_end o command files (ReadFault failed) told right shelf sink (inl a) = shelf a.1
-right_files_end o command files (ReadFault failed) told right shelf sink (inr b) = elim b.2 [ inl c ↦ shelf c.1 | inr c ↦ c.2 ]
+only_memory : FilesMeanOneThing → (files : FileMap) (inputs : List Input) (before after : ℕ) (s : Status) → ¬ (HasRisen before after) → AreRight (Some files) inputs → FailsAt (Some files) inputs before after s → s ≡ OutOfMemory
+only_memory law files [] before after s still right h = absurd h
+only_memory law files (input ∷ inputs) before after s still right (inl h) = right_file law files input right.0.0 before after s still right.0.1 h
+only_memory law files (input ∷ inputs) before after s still right (inr h) = only_memory law files inputs before after s still right.1 h.2
+
+written_end : (o : Outside) (out : Outcome) (s : Status) → ¬ (HasRisen o.shelf_before o.shelf_after) → ¬ (HasRisen o.sink_before o.sink_after) → IsPublished o out s → IsEnd s
+written_end o out s shelf sink (inl h) = subst IsEnd (sym h.0) tt
+written_end o out s shelf sink (inr (inl (is, inl lost))) = absurd (shelf lost.count)
+written_end o out s shelf sink (inr (inl (is, inr lost))) = absurd (sink lost.count)
+written_end o out s shelf sink (inr (inr h)) = subst IsEnd (sym h.0) tt
+
+pub right_files_end : FilesMeanOneThing → RightFilesEnd
+right_files_end law o command files s told right shelf sink (inl h) = written_end o h.0 s shelf sink h.2
+right_files_end law o command files s told right shelf sink (inr (inl h)) = subst IsEnd (sym h.1) tt
+right_files_end law o command files s told right shelf sink (inr (inr h)) =
+    subst IsEnd (sym (only_memory law files (inputs_of command) o.shelf_before o.shelf_after s shelf right (subst (λ fs. FailsAt fs (inputs_of command) o.shelf_before o.shelf_after s) told h.0))) tt

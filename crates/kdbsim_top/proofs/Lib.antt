@@ -1,3 +1,3 @@
-pub mod FromFiles
+pub mod Inputs
 pub mod Exclusion
 pub mod RunSteps

@@ -1,21 +1,20 @@
 -- The cause of each answer of the top call.
-use Rattle.std.specs.Prelude.{◌≡◌, ℕ, List, [], ◌∷◌, ◌++◌, Option}
+use Rattle.std.specs.Prelude.{◌≡◌, ℕ, ◌⊎◌, List, ◌++◌, Option, Some, None}
 use Rattle.std.specs.Option.{option_map}
-use Rattle.mach_base.specs.declared.event.Ending.{Ending}
-use Rattle.img_text.specs.Image.{ImageRecord}
-use Rattle.io_edge.specs.Edge.{FileMap, HasRisen, HasTakenPart}
-use Rattle.atom_mach.specs.State.{start_state}
-use Rattle.atom_mach.specs.Run.{IsTranscript, first_allowed}
-use Rattle.kdbsim_top.specs.Words.{Command}
-use Rattle.kdbsim_top.specs.Files.{HasImage, HasScript, Inputs, FailsAt}
-use Rattle.kdbsim_top.specs.declared.status.File.TheVariants.{Image, Script}
-use Rattle.kdbsim_top.specs.declared.status.Status.{Status}
-use Rattle.kdbsim_top.specs.declared.status.Status.TheVariants.{Done, WriteFault}
+use Rattle.std.specs.FinMap.{insert}
+use Rattle.io_edge.specs.Edge.{FileMap, HasRisen, HasTakenPart, KeepsOthers}
+use Rattle.program_words.specs.Words.{Text}
+use Rattle.program_words.specs.Commands.{Command}
+use Rattle.kdbsim_files.specs.Files.{FailsAt}
+use Rattle.kdbsim_files.specs.declared.status.Status.{Status}
+use Rattle.kdbsim_files.specs.declared.status.Status.TheVariants.{Done, Usage, BadStep, WriteFault, OutOfMemory}
+use Rattle.kdbsim_top.specs.Runs.{Outcome, IsOutcome, IsIllegal, inputs_of}
 
--- what the shelf and the sink tell before and after a call: the shelf's files, which stay, and its count of faults; the
--- bytes that the sink took, and its count of faults
+-- what the shelf and the sink tell before and after a call: the shelf's files and its count of faults; the bytes that the
+-- sink took and its count of faults
 pub record Outside : Type 0 where
-  pub files : Option FileMap
+  pub files_before : Option FileMap
+  pub files_after : Option FileMap
   pub shelf_before : ℕ
   pub shelf_after : ℕ
   pub taken_before : Option (List ℕ)
@@ -23,39 +22,51 @@ pub record Outside : Type 0 where
   pub sink_before : ℕ
   pub sink_after : ℕ
 
--- the limit of steps of uni
-abbrev pub uni_limit : ℕ
-uni_limit = 1000000
+-- nothing was written
+pub record IsQuiet (o : Outside) : Type 0 where
+  pub files : o.files_after ≡ o.files_before
+  pub taken : o.taken_after ≡ o.taken_before
 
--- the files of uni
-abbrev pub inputs_of : Command → Inputs
-inputs_of command = (Image, command.image) ∷ (Script, command.script) ∷ []
+-- the journal stands under its name, if there is one, and every other name keeps its bytes
+abbrev pub HasJournal : Outside → Option (Text × List ℕ) → Type 0
+HasJournal o None = o.files_after ≡ o.files_before
+HasJournal o (Some journal) = o.files_after ≡ option_map (λ files. insert files journal.0 journal.1) o.files_before
 
--- The text is the transcript of the one run, by the rule of a machine with one hart, from the start state of the image
--- and the script that the shelf tells, and the run ends so.
-pub record IsUniRun (files : Option FileMap) (command : Command) (ending : Ending) (text : List ℕ) : Type 0 where
-  pub image : ImageRecord
-  pub script : List (List ℕ)
-  pub read_image : HasImage files command.image image
-  pub read_script : HasScript files command.script script
-  pub transcript : IsTranscript first_allowed (start_state image [] script 1 uni_limit) ending text
+-- all is out: the journal, and just this text more in the sink
+pub record IsOut (o : Outside) (out : Outcome) : Type 0 where
+  pub journal : HasJournal o out.journal
+  pub taken : o.taken_after ≡ option_map (λ before. before ++ out.text) o.taken_before
 
--- the sink has taken just this text more
-abbrev pub HasTaken : Outside → List ℕ → Type 0
-HasTaken o text = o.taken_after ≡ option_map (λ before. before ++ text) o.taken_before
+-- the shelf failed at the journal: its count rose, every name but the journal's keeps its bytes, and no text is out
+pub record HasLostJournal (o : Outside) (out : Outcome) : Type 0 where
+  pub name : Text
+  pub text : List ℕ
+  pub journal : out.journal ≡ Some (name, text)
+  pub others : KeepsOthers name o.files_before o.files_after
+  pub count : HasRisen o.shelf_before o.shelf_after
+  pub taken : o.taken_after ≡ o.taken_before
 
--- The cause of each answer to a command: what must have been so for it to come.
+-- the sink failed at the text: its count rose, the journal is out, and a first part of the text
+pub record HasLostText (o : Outside) (out : Outcome) : Type 0 where
+  pub journal : HasJournal o out.journal
+  pub taken : HasTakenPart o.taken_before out.text o.taken_after
+  pub count : HasRisen o.sink_before o.sink_after
+
+-- the answer to an outcome: it is out, a write failed, or memory ran out before the first
+abbrev pub IsPublished : Outside → Outcome → Status → Type 0
+IsPublished o out status =
+    ((status ≡ Done out.ending) × IsOut o out)
+    ⊎ ((status ≡ WriteFault) × (HasLostJournal o out ⊎ HasLostText o out))
+    ⊎ ((status ≡ OutOfMemory) × IsQuiet o)
+
+-- The cause of each answer to a command, what must have been so for it to come: the outcome of its run was to be written;
+-- or nothing was written, and an entry of the journal that it replays isn't legal, or one of its files fails.
 abbrev pub Explains : Outside → Command → Status → Type 0
--- the transcript of the run is out
-Explains o command (Done ending) = (text : List ℕ) × IsUniRun o.files command ending text × HasTaken o text
--- the sink's count rose, and a first part of the transcript is out
-Explains o command WriteFault =
-    (ending : Ending) × (text : List ℕ) × IsUniRun o.files command ending text × HasTakenPart o.taken_before text o.taken_after × HasRisen o.sink_before o.sink_after
--- one of the files fails, or memory ran out
-Explains o command status = FailsAt o.files (inputs_of command) o.shelf_before o.shelf_after status
+Explains o command status =
+    ((out : Outcome) × IsOutcome o.files_before command out × IsPublished o out status)
+    ⊎ ((index : ℕ) × (status ≡ BadStep index) × IsIllegal o.files_before command index × IsQuiet o)
+    ⊎ (FailsAt o.files_before (inputs_of command) o.shelf_before o.shelf_after status × IsQuiet o)
 
--- the answers before which nothing is written
-abbrev pub IsSilent : Status → Type 0
-IsSilent (Done ending) = ⊥
-IsSilent WriteFault = ⊥
-IsSilent other = Unit {0}
+-- the answer to words that are no command
+abbrev pub IsNoCommand : Outside → Status → Type 0
+IsNoCommand o status = ((status ≡ Usage) ⊎ (status ≡ OutOfMemory)) × IsQuiet o

@@ -1,6 +1,4 @@
-pub mod Words
-pub mod Files
-pub mod Causes
+pub mod Runs
 pub mod Stages
+pub mod Causes
 pub mod Laws
-pub mod Report

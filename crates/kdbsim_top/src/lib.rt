@@ -1,26 +1,23 @@
-//! The top call of kdbsim: from the program's words to what it prints and answers.
+//! The top call of kdbsim: from the program's words to what it writes, prints and answers.
 //!
 //! - The *words* are the program's words after its name; a *command* is what they ask for.
-//! - A *status* is the answer of a call: how the run ended, or why there was none.
+//! - An *outcome* is what a command's run comes to: how it ended, its transcript and the journal that is to be written.
 //! - A *transcript* is all that a run prints: its banners, prompts with their lines, output, and the ending line.
+//! - A *status* is the answer of a call: how the run ended, or why there was none.
 //!
-//! It stands on the atomic machine, the formats and the edge; the program stands on it. The headline is the clause
-//! `cause` of `kdbsim`, by the definition `Explains`.
+//! It stands on the runs of the machine, the words, the files and the edge; the program stands on it. The headline is the
+//! clause `cause` of `kdbsim`, by the definition `Explains`.
 #![tactic(auto)]
 
-mod input;
+mod commands;
+mod inputs;
 mod laws;
-mod report;
-mod run;
-mod status;
-#[cfg(test)]
-mod stop_tests;
+mod publish;
 #[cfg(test)]
 mod tests;
 mod top;
-mod words;
+mod uni;
 
+pub use kdbsim_files::{File, Status, status_code, status_line};
 pub use laws::{refusals_exclude_other_answers, right_files_end_the_run};
-pub use report::{status_code, status_line};
-pub use status::{File, Status};
 pub use top::kdbsim;

@@ -154,7 +154,7 @@ run_within given r all e =
     options_within run_row given all (λ t h. sym (or_false _) ∙ h) (λ t h. sym (or_false _) ∙ h) (λ t h. sym (or_false _) ∙ h) in
     with_value_within (argument (codes "image") given) _ r (λ image. with_value_within (argument (codes "map") given) _ r
     (λ map. with_value_within (argument (codes "script") given) _ r (λ script. with_value_within (argument (codes "journal") given) _ r
-    (λ journal. made_within (run image map script journal (options_of (λ name. argument name given))) r options)))) e
+    (λ journal. made_within (command (run image map script journal (options_of (λ name. argument name given)))) r options)))) e
 
 lockstep_within : IsRowWithin lockstep_row
 lockstep_within given r all e =
@@ -163,7 +163,7 @@ lockstep_within given r all e =
     with_value_within (argument (codes "image") given) _ r (λ image. with_value_within (argument (codes "map") given) _ r
     (λ map. with_value_within (argument (codes "script") given) _ r (λ script. with_value_within (argument (codes "plan") given) _ r
     (λ plan. with_value_within (argument (codes "journal") given) _ r
-    (λ journal. made_within (lockstep image map script plan journal (options_of (λ name. argument name given))) r options))))) e
+    (λ journal. made_within (command (lockstep image map script plan journal (options_of (λ name. argument name given)))) r options))))) e
 
 number_fits : (given : List Argument) (t : Text) → all_fit load_row given ≡ true → argument (codes "number") given ≡ Some t → is_number_in 0 4294967295 t ≡ true
 number_fits given t all e = sym (or_false _) ∙ (sym (or_false _) ∙ argument_fits load_row given (codes "number") t all e)

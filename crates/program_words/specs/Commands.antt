@@ -6,16 +6,16 @@ use Rattle.program_words.specs.declared.request.Options.{Options}
 use Rattle.program_words.specs.Words.{Text, Row, Argument, argument, is_number_in, row_and_arguments}
 use Rattle.program_words.specs.Rows.{command_rows}
 
--- a command that is built, with the names of its files
+-- a command that is built, with the names of its files and the options of a run
 pub data Command : Type 0 where
   uni : Text → Text → Command
   replay : Text → Text → Text → Text → Command
+  run : Text → Text → Text → Text → Options → Command
+  lockstep : Text → Text → Text → Text → Text → Options → Command
 
 -- what the words ask for: a command that is built, or one that is to come
 pub data Request : Type 0 where
   command : Command → Request
-  run : Text → Text → Text → Text → Options → Request
-  lockstep : Text → Text → Text → Text → Text → Options → Request
   load : ℕ → Request
 
 -- the value of each name
@@ -53,13 +53,13 @@ replay_from values =
 abbrev pub run_from : Values → Values → Option Request
 run_from values numbers =
     with_value values (codes "image") (λ image. with_value values (codes "map") (λ map. with_value values (codes "script")
-    (λ script. with_value values (codes "journal") (λ journal. Some (run image map script journal (options_of numbers))))))
+    (λ script. with_value values (codes "journal") (λ journal. Some (command (run image map script journal (options_of numbers)))))))
 
 abbrev pub lockstep_from : Values → Values → Option Request
 lockstep_from values numbers =
     with_value values (codes "image") (λ image. with_value values (codes "map") (λ map. with_value values (codes "script")
     (λ script. with_value values (codes "plan") (λ plan. with_value values (codes "journal")
-    (λ journal. Some (lockstep image map script plan journal (options_of numbers)))))))
+    (λ journal. Some (command (lockstep image map script plan journal (options_of numbers))))))))
 
 abbrev pub load_from : Values → Option Request
 load_from numbers = option_map (λ n. load n) (option_and_then (number_to 18446744073709551615) (numbers (codes "number")))

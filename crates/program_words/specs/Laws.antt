@@ -6,7 +6,7 @@ use Rattle.program_words.specs.Words.{Text, Kind, plain, kind, Parameter, Row, I
 use Rattle.program_words.specs.Rows.{command_rows}
 use Rattle.mach_base.specs.declared.limits.TheConstants.{MOST_HARTS, MOST_ROUNDS, MOST_STEPS}
 use Rattle.program_words.specs.declared.request.Options.{Options}
-use Rattle.program_words.specs.Commands.{Command, uni, command_of, Request, command, run, lockstep, load, request_of}
+use Rattle.program_words.specs.Commands.{Command, uni, replay, run, lockstep, command_of, Request, command, load, request_of}
 
 -- the option of this name
 abbrev option_of : Row → Text → Option Parameter
@@ -58,11 +58,16 @@ pub record AreWithin (options : Options) : Type 0 where
   pub steps : (1 ≤ options.steps) × (options.steps ≤ MOST_STEPS)
   pub rounds : (1 ≤ options.rounds) × (options.rounds ≤ MOST_ROUNDS)
 
+-- the numbers of a command are within their bounds
+abbrev pub IsCommandWithin : Command → Type 0
+IsCommandWithin (uni image script) = Unit {0}
+IsCommandWithin (replay image map script journal) = Unit {0}
+IsCommandWithin (run image map script journal options) = AreWithin options
+IsCommandWithin (lockstep image map script plan journal options) = AreWithin options
+
 -- the numbers of a request are within their bounds
 abbrev pub IsWithin : Request → Type 0
-IsWithin (command c) = Unit {0}
-IsWithin (run image map script journal options) = AreWithin options
-IsWithin (lockstep image map script plan journal options) = AreWithin options
+IsWithin (command c) = IsCommandWithin c
 IsWithin (load number) = number ≤ 4294967295
 
 -- The numbers of each request are within their bounds, the defaults of options that aren't given too.

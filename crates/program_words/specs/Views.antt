@@ -11,11 +11,11 @@ use Rattle.program_words.specs.Commands.{Command, uni, replay, Request, command,
 abbrev pub command_view : Made → Command
 command_view (made.Uni image script) = uni image.now script.now
 command_view (made.Replay image map script journal) = replay image.now map.now script.now journal.now
+command_view (made.Run image map script journal options) = run image.now map.now script.now journal.now options
+command_view (made.Lockstep image map script plan journal options) = lockstep image.now map.now script.now plan.now journal.now options
 
 abbrev pub request_view : Asked → Request
 request_view (asked.Built c) = command (command_view c)
-request_view (asked.Run image map script journal options) = run image.now map.now script.now journal.now options
-request_view (asked.Lockstep image map script plan journal options) = lockstep image.now map.now script.now plan.now journal.now options
 request_view (asked.Load number) = load number
 
 -- the request of what clap found: by the command's word, and by the values of its names

@@ -51,13 +51,13 @@ fn run<'a>(found: &ArgMatches<'a>) -> Option<Request<'a>>
     let map = value(found, "map")?;
     let script = value(found, "script")?;
     let journal = value(found, "journal")?;
-    Some(Request::Run {
+    Some(Request::Built(Command::Run {
         image,
         map,
         script,
         journal,
         options: options(found),
-    })
+    }))
 }
 
 fn lockstep<'a>(found: &ArgMatches<'a>) -> Option<Request<'a>>
@@ -68,14 +68,14 @@ fn lockstep<'a>(found: &ArgMatches<'a>) -> Option<Request<'a>>
     let script = value(found, "script")?;
     let plan = value(found, "plan")?;
     let journal = value(found, "journal")?;
-    Some(Request::Lockstep {
+    Some(Request::Built(Command::Lockstep {
         image,
         map,
         script,
         plan,
         journal,
         options: options(found),
-    })
+    }))
 }
 
 fn load<'a>(found: &ArgMatches<'a>) -> Option<Request<'a>>

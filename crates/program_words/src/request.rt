@@ -24,13 +24,7 @@ pub enum Command<'a> {
         script: &'a str,
         journal: &'a str,
     },
-}
-
-/// What right words ask for: a command that is built, or one that is to come.
-#[derive(Clone, Copy, Debug)]
-pub enum Request<'a> {
-    Built(Command<'a>),
-    /// `run IMAGE MAP SCRIPT JOURNAL [--harts N] [--steps L] [--rounds R]`
+    /// `run IMAGE MAP SCRIPT JOURNAL [--harts N] [--steps L] [--rounds R]`: a run of one worker a hart, with its journal.
     Run {
         image: &'a str,
         map: &'a str,
@@ -38,7 +32,7 @@ pub enum Request<'a> {
         journal: &'a str,
         options: Options,
     },
-    /// `lockstep IMAGE MAP SCRIPT PLAN JOURNAL`, with the options of `run`.
+    /// `lockstep IMAGE MAP SCRIPT PLAN JOURNAL`, with the options of `run`: the run of a plan, with its journal.
     Lockstep {
         image: &'a str,
         map: &'a str,
@@ -47,6 +41,12 @@ pub enum Request<'a> {
         journal: &'a str,
         options: Options,
     },
+}
+
+/// What right words ask for: a command that is built, or one that is to come.
+#[derive(Clone, Copy, Debug)]
+pub enum Request<'a> {
+    Built(Command<'a>),
     /// `load NUMBER`, from 0 to 4,294,967,295.
     Load {
         number: u64,

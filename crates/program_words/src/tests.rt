@@ -30,7 +30,8 @@ fn words_are_commands_or_a_wrong_use(rt: HostRuntime) -> Result<(), Fail> {
         ("run a b c", (false, false)),
         ("run a b c d --harts 17", (false, false)),
         ("run a b c d --harts 2 --harts=2", (false, false)),
-        ("lockstep --harts=+02 a b - d -- --e", (false, true)),
+        ("lockstep --harts=+02 a b - d -- --e", (true, true)),
+        ("load 4294967295", (false, true)),
         ("load 4294967296", (false, false)),
     ] {
         assert!(rt; answers(rt.alloc(), line)? == answer);

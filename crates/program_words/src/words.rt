@@ -3,10 +3,12 @@ ghost use Rattle.std.specs.Option.{option_map};
 ghost use Rattle.std.specs.String.{string_bytes};
 ghost use Rattle.clap.specs.Words.{kind_of};
 ghost use Rattle.program_words.specs.Commands.{command_of, request_of};
+ghost use Rattle.program_words.specs.Laws.{IsCommandWithin};
 ghost use Rattle.program_words.specs.Views.{command_view, request_in, request_view};
 ghost use Rattle.program_words.specs.declared.request.WordsFault.TheVariants.{Usage};
 
 use crate::found::request;
+use crate::laws::requests_are_within_bounds;
 use crate::parser::program;
 use crate::request::{Command, Request, WordsFault};
 use clap::ArgMatches;
@@ -17,11 +19,13 @@ use std::alloc::Global;
 /// or too many operands, an option that the command lacks or that comes twice, a number that is none or out of bounds.
 pub fn command_of(words: &[String], alloc: Global) -> Result<Command<'_>, WordsFault>
     ensures ok { IfOk result (λ c. command_of (map string_bytes words.now) ≡ Some (command_view c)) }
+    ensures within { IfOk result (λ c. IsCommandWithin (command_view c)) }
     ensures usage { IfErr result (λ e. e ≡ Usage → command_of (map string_bytes words.now) ≡ None) }
 {
+    requests_are_within_bounds();
     match request_of(words, alloc)? {
         Request::Built(command) => Ok(command),
-        _ => Err(WordsFault::Usage),
+        Request::Load { .. } => Err(WordsFault::Usage),
     }
 }
 

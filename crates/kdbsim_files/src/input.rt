@@ -1,0 +1,124 @@
+//! Reads the files of a command.
+ghost use Rattle.std.specs.Prelude.{◌≡◌, ◌≤◌, length, IfOk, IfErr, MatchResult};
+ghost use Rattle.io_edge.specs.Edge.{IsTold};
+ghost use Rattle.plan_text.specs.Ticks.{AreBelow, ticks_of};
+ghost use Rattle.kdbsim_files.specs.Files.{bytes_of_file, size_limit, image_file, map_file, script_file, plan_file, journal_file, FailsAtFile, FailsBefore, HasFile};
+
+use crate::{File, Status};
+use atom_mach::{Script, check_script};
+use img_text::{Image, read_image};
+use io_edge::{ReadFail, Shelf};
+use jrn_text::{Journal, read_journal};
+use mach_base::{IMAGE_BYTES, JOURNAL_BYTES, MAP_BYTES, PLAN_BYTES, SCRIPT_BYTES, What};
+use plan_text::{Plan, read_plan};
+use std::alloc::Global;
+use sym_map::Symbols;
+
+/// Reads the image of a name, and finds what is wrong with it.
+pub fn image_input<F: Shelf>(alloc: Global, shelf: &mut F, name: &str) -> Result<Image, Status>
+    ensures image { MatchResult result (HasFile (F.contents shelf.old) image_file name.now) (FailsAtFile (F.contents shelf.old) image_file name.now (F.faults shelf.old) (F.faults shelf.new)) }
+    ensures kept { F.contents shelf.new ≡ F.contents shelf.old }
+    ensures count { F.faults shelf.old ≤ F.faults shelf.new }
+{
+    let bytes = read_input(alloc, shelf, File::Image, name)?;
+    Ok(read_image(alloc, bytes.as_slice())?)
+}
+
+/// Reads the map of a name, and finds what is wrong with it.
+pub fn map_input<F: Shelf>(alloc: Global, shelf: &mut F, name: &str) -> Result<Symbols, Status>
+    ensures map { MatchResult result (HasFile (F.contents shelf.old) map_file name.now) (FailsAtFile (F.contents shelf.old) map_file name.now (F.faults shelf.old) (F.faults shelf.new)) }
+    ensures kept { F.contents shelf.new ≡ F.contents shelf.old }
+    ensures count { F.faults shelf.old ≤ F.faults shelf.new }
+{
+    let bytes = read_input(alloc, shelf, File::Map, name)?;
+    Ok(Symbols::read(alloc, bytes.as_slice())?)
+}
+
+/// Reads the script of a name, and finds what is wrong with it.
+pub fn script_input<F: Shelf>(alloc: Global, shelf: &mut F, name: &str) -> Result<Script, Status>
+    ensures script { MatchResult result (HasFile (F.contents shelf.old) script_file name.now) (FailsAtFile (F.contents shelf.old) script_file name.now (F.faults shelf.old) (F.faults shelf.new)) }
+    ensures kept { F.contents shelf.new ≡ F.contents shelf.old }
+    ensures count { F.faults shelf.old ≤ F.faults shelf.new }
+{
+    let bytes = read_input(alloc, shelf, File::Script, name)?;
+    Ok(check_script(alloc, bytes.as_slice())?)
+}
+
+/// Reads the plan of a name for so many harts, and finds what is wrong with it.
+pub fn plan_input<F: Shelf>(
+    alloc: Global,
+    shelf: &mut F,
+    name: &str,
+    harts: u8,
+) -> Result<Plan, Status>
+    ensures plan { MatchResult result (HasFile (F.contents shelf.old) (plan_file harts) name.now) (FailsAtFile (F.contents shelf.old) (plan_file harts) name.now (F.faults shelf.old) (F.faults shelf.new)) }
+    ensures below { IfOk result (λ plan. AreBelow harts (ticks_of plan)) }
+    ensures kept { F.contents shelf.new ≡ F.contents shelf.old }
+    ensures count { F.faults shelf.old ≤ F.faults shelf.new }
+{
+    let bytes = read_input(alloc, shelf, File::Plan, name)?;
+    Ok(read_plan(alloc, bytes.as_slice(), harts)?)
+}
+
+/// Reads the journal of a name, and finds what is wrong with it.
+pub fn journal_input<F: Shelf>(alloc: Global, shelf: &mut F, name: &str) -> Result<Journal, Status>
+    ensures journal { MatchResult result (λ j. HasFile (F.contents shelf.old) journal_file name.now (record { harts = j.harts; limit = j.limit; entries = j.entries.entries })) (FailsAtFile (F.contents shelf.old) journal_file name.now (F.faults shelf.old) (F.faults shelf.new)) }
+    ensures kept { F.contents shelf.new ≡ F.contents shelf.old }
+    ensures count { F.faults shelf.old ≤ F.faults shelf.new }
+{
+    let bytes = read_input(alloc, shelf, File::Journal, name)?;
+    Ok(read_journal(alloc, bytes.as_slice())?)
+}
+
+/// Reads a file of a name to its end, and refuses one that is too large.
+fn read_input<F: Shelf>(
+    alloc: Global,
+    shelf: &mut F,
+    file: File,
+    name: &str,
+) -> Result<Vec<u8>, Status>
+    ensures told { IfOk result (λ bytes. IsTold (F.contents shelf.old) name.now bytes.items) }
+    ensures short { IfOk result (λ bytes. length bytes.items ≤ size_limit file) }
+    ensures fails { IfErr result (FailsBefore (F.contents shelf.old) file name.now (F.faults shelf.old) (F.faults shelf.new)) }
+    ensures kept { F.contents shelf.new ≡ F.contents shelf.old }
+    ensures count { F.faults shelf.old ≤ F.faults shelf.new }
+{
+    let bytes = match shelf.read(alloc, name) {
+        Ok(bytes) => bytes,
+        Err(ReadFail::Failed) => return Err(Status::ReadFault(file)),
+        Err(ReadFail::OutOfMemory) => return Err(Status::OutOfMemory),
+    };
+    if bytes.len() > size_limit(file) {
+        return Err(Status::TooLarge {
+            what: bytes_of_file(file),
+            size: bytes.len() as u64,
+        });
+    }
+    Ok(bytes)
+}
+
+/// The most bytes of a file.
+fn size_limit(file: File) -> usize
+    ensures { result ≡ size_limit file }
+{
+    match file {
+        File::Image => IMAGE_BYTES,
+        File::Map => MAP_BYTES,
+        File::Script => SCRIPT_BYTES,
+        File::Plan => PLAN_BYTES,
+        File::Journal => JOURNAL_BYTES,
+    }
+}
+
+/// What a file of more bytes has too much of.
+fn bytes_of_file(file: File) -> What
+    ensures { result ≡ bytes_of_file file }
+{
+    match file {
+        File::Image => What::ImageBytes,
+        File::Map => What::MapBytes,
+        File::Script => What::ScriptBytes,
+        File::Plan => What::PlanBytes,
+        File::Journal => What::JournalBytes,
+    }
+}
