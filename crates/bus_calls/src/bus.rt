@@ -48,7 +48,7 @@ pub struct CoreBus {
 }
 
 impl CoreBus {
-    ghost use Rattle.std.specs.Prelude.{◌≡◌, ◌≤◌, ◌<◌, ◌^◌, false, IfOk};
+    ghost use Rattle.std.specs.Prelude.{◌≡◌, ◌≤◌, ◌<◌, ◌^◌, [], false, IfOk};
     ghost use Rattle.mach_base.specs.declared.limits.TheConstants.{MOST_HARTS, MOST_LINES, MOST_STEPS};
     ghost use Rattle.deck_core.specs.contract.Told.{IsTold, IsOpening};
     ghost use Rattle.atom_mach.specs.State.{hart_count};
@@ -72,6 +72,7 @@ impl CoreBus {
         requires low { 1 ≤ limit }
         requires high { limit ≤ MOST_STEPS }
         ensures machine { IfOk result (λ bus. machine_of bus.core ≡ planted_start image.now names script harts limit) }
+        ensures journal { IfOk result (λ bus. entries_of bus.core ≡ []) }
         ensures opening { IfOk result (λ bus. IsOpening (told bus)) }
         ensures harts { IfOk result (λ bus. (told bus).harts ≡ harts) }
         ensures origin { IfOk result (λ bus. ComesFrom (record { image = image.now; symbols = names; lines = script; harts = harts; limit = limit }) bus.core) }

@@ -4,29 +4,37 @@
 
 use io_edge::{DirShelf, OutSink};
 use kdbsim_top::{Status, kdbsim, status_code, status_line};
+use run_join::Millisecond;
+use std::alloc::Global;
 use std::process::ExitCode;
+use std::rt::Files;
+use std::sync::Wait;
+use std::thread::Threads;
+use std::time::Clock;
 use std::{env, io};
 
 fn main(rt: HostRuntime) -> ExitCode {
-    let status = answer(&rt);
+    let status = match words(&rt) {
+        Ok(words) => answer(&rt, rt.alloc(), words.as_slice()),
+        Err(error) if error.kind() == io::ErrorKind::OutOfMemory => Status::OutOfMemory,
+        Err(_) => Status::Usage,
+    };
     report(&rt, &status);
     ExitCode::from(status_code(&status))
 }
 
-/// The answer to the program's words. Words that aren't text are no command.
-fn answer(rt: &HostRuntime) -> Status {
-    match words(rt) {
-        Ok(words) => {
-            let mut shelf = DirShelf::new(rt);
-            let mut out = OutSink::new(rt);
-            kdbsim(rt.alloc(), words.as_slice(), &mut shelf, &mut out)
-        }
-        Err(error) if error.kind() == io::ErrorKind::OutOfMemory => Status::OutOfMemory,
-        Err(_) => Status::Usage,
-    }
+/// The answer to the program's words, with the files of the system, standard output and its clock.
+fn answer<R: Files + Print + Threads + Wait + Clock + Sync>(
+    rt: &R,
+    alloc: Global,
+    words: &[String],
+) -> Status {
+    let mut shelf = DirShelf::new(rt);
+    let mut out = OutSink::new(rt);
+    kdbsim(rt, alloc, words, &mut shelf, &mut out, Millisecond::new(rt))
 }
 
-/// The program's words after its name.
+/// The program's words after its name; words that aren't text are no command.
 fn words(rt: &HostRuntime) -> io::Result<Vec<String>> {
     let mut words = Vec::new(rt.alloc());
     for word in env::args(rt)?.skip(1) {

@@ -12,21 +12,21 @@ use Rattle.kdbsim_files.specs.Faults.{status_of_image, status_of_map, status_of_
 use Rattle.kdbsim_files.specs.Files.{Kind, image_file, map_file, script_file, plan_file, journal_file, Recording, Value, Means, RefusesText, Refuses, IsShort, IsTooLong, HasFile, HasFailed, IsRefused, FailsAtFile, FailsAt, Input, file_of, size_limit}
 use Rattle.kdbsim_files.specs.Laws.{IsRefusal, FilesMeanOneThing, RefusalsAreOne}
 
-ok_or : {A E : Type 0} → A → Result A E → A
+abbrev ok_or : {A E : Type 0} → A → Result A E → A
 ok_or d (Ok a) = a
 ok_or d (Err e) = d
 
 same_value : {A E : Type 0} (r : Result A E) (v w : A) → r ≡ Ok v → r ≡ Ok w → v ≡ w
 same_value r v w a b = ap (ok_or v) (sym a ∙ b)
 
-err_or : {A E : Type 0} → E → Result A E → E
+abbrev err_or : {A E : Type 0} → E → Result A E → E
 err_or d (Ok a) = d
 err_or d (Err e) = e
 
 same_fault : {A E : Type 0} (r : Result A E) (f g : E) → r ≡ Err f → r ≡ Err g → f ≡ g
 same_fault r f g a b = ap (err_or f) (sym a ∙ b)
 
-is_ok : {A E : Type 0} → Result A E → Type 0
+abbrev is_ok : {A E : Type 0} → Result A E → Type 0
 is_ok (Ok a) = Unit {0}
 is_ok (Err e) = ⊥
 

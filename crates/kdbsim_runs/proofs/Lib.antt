@@ -1,2 +1,4 @@
 pub mod Endings
 pub mod JournalEntries
+pub mod Ticks
+pub mod Records

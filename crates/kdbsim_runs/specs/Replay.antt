@@ -3,8 +3,8 @@ use Rattle.std.specs.Prelude.{◌≡◌, ℕ, List, ◌∷◌, ◌++◌, length,
 use Rattle.mach_base.specs.declared.event.Entry.{Entry}
 use Rattle.plant_mach.specs.Entries.{Made, makes, made_by}
 use Rattle.bus_core.specs.Origin.{Origin, start_of}
-use Rattle.kdbsim_runs.specs.declared.replay.ReplayFault.{ReplayFault}
-use Rattle.kdbsim_runs.specs.declared.replay.ReplayFault.TheVariants.{BadStep, OutOfMemory}
+use Rattle.kdbsim_runs.specs.declared.replays.ReplayFault.{ReplayFault}
+use Rattle.kdbsim_runs.specs.declared.replays.ReplayFault.TheVariants.{BadStep, OutOfMemory}
 
 -- the entry of this index, from 0, is the first that isn't legal after those before it
 pub record IsBadStep (start : Origin) (entries : List Entry) (index : ℕ) : Type 0 where

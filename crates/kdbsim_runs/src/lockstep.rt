@@ -59,7 +59,7 @@ pub fn run_plan_of(
 fn make_ticks(deck: &mut Flat<CoreBus>, progs: &mut [Prog], ticks: Ticks<'_>)
     requires stand { AllStand (⟦<Flat<CoreBus> as Deck>⟧.whole deck.old) progs.old }
     requires below { AllBelow (length progs.old) (left_in ticks) }
-    ensures runs { WholeRuns told Does (hart_numbers (left_in ticks)) (⟦<Flat<CoreBus> as Deck>⟧.whole deck.old) deck.old.bus (⟦<Flat<CoreBus> as Deck>⟧.whole deck.new) deck.new.bus }
+    ensures runs { WholeRuns told Does (hart_numbers (left_in ticks.entry)) (⟦<Flat<CoreBus> as Deck>⟧.whole deck.old) deck.old.bus (⟦<Flat<CoreBus> as Deck>⟧.whole deck.new) deck.new.bus }
     ensures origin { SameOrigin deck.old.bus deck.new.bus }
 {
     let mut ticks = ticks;

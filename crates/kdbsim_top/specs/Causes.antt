@@ -1,5 +1,5 @@
 -- The cause of each answer of the top call.
-use Rattle.std.specs.Prelude.{◌≡◌, ℕ, ◌⊎◌, List, ◌++◌, Option, Some, None}
+use Rattle.std.specs.Prelude.{◌≡◌, ℕ, ◌⊎◌, Bool, true, false, List, ◌++◌, Option, Some, None}
 use Rattle.std.specs.Option.{option_map}
 use Rattle.std.specs.FinMap.{insert}
 use Rattle.io_edge.specs.Edge.{FileMap, HasRisen, HasTakenPart, KeepsOthers}
@@ -8,7 +8,7 @@ use Rattle.program_words.specs.Commands.{Command}
 use Rattle.kdbsim_files.specs.Files.{FailsAt}
 use Rattle.kdbsim_files.specs.declared.status.Status.{Status}
 use Rattle.kdbsim_files.specs.declared.status.Status.TheVariants.{Done, Usage, BadStep, WriteFault, OutOfMemory}
-use Rattle.kdbsim_top.specs.Runs.{Outcome, IsOutcome, IsIllegal, inputs_of}
+use Rattle.kdbsim_top.specs.Runs.{Outcome, IsOutcome, IsIllegal, inputs_of, is_run}
 
 -- what the shelf and the sink tell before and after a call: the shelf's files and its count of faults; the bytes that the
 -- sink took and its count of faults
@@ -70,3 +70,18 @@ Explains o command status =
 -- the answer to words that are no command
 abbrev pub IsNoCommand : Outside → Status → Type 0
 IsNoCommand o status = ((status ≡ Usage) ⊎ (status ≡ OutOfMemory)) × IsQuiet o
+
+-- the cause of an answer, by the command that the words ask for, if they ask for one
+abbrev pub IsAnswer : Outside → Option Command → Status → Type 0
+IsAnswer o None status = IsNoCommand o status
+IsAnswer o (Some command) status = Explains o command status
+
+-- the same, where the command isn't run
+abbrev pub IsAnswerAlone : Outside → Option Command → Status → Type 0
+IsAnswerAlone o None status = IsNoCommand o status
+IsAnswerAlone o (Some command) status = (is_run command ≡ false) × Explains o command status
+
+-- the command is run, and nothing was written
+abbrev pub IsForThreads : Outside → Option Command → Type 0
+IsForThreads o None = ⊥
+IsForThreads o (Some command) = (is_run command ≡ true) × IsQuiet o

@@ -1,5 +1,5 @@
 -- What each command runs: its files, and the outcome that they give.
-use Rattle.std.specs.Prelude.{◌≡◌, ℕ, List, [], ◌∷◌, Option, Some, None}
+use Rattle.std.specs.Prelude.{◌≡◌, ℕ, Bool, true, false, List, [], ◌∷◌, Option, Some, None}
 use Rattle.mach_base.specs.Machine.{Symbol}
 use Rattle.mach_base.specs.declared.event.Ending.{Ending}
 use Rattle.mach_base.specs.declared.event.Entry.{Entry}
@@ -120,3 +120,8 @@ IsOutcome files (lockstep image map script plan journal options) out = IsLockste
 abbrev pub IsIllegal : Option FileMap → Command → ℕ → Type 0
 IsIllegal files (replay image map script journal) index = IsIllegalAt files image map script journal index
 IsIllegal files other index = ⊥
+
+-- whether the command is run, which needs threads
+abbrev pub is_run : Command → Bool
+is_run (run image map script journal options) = true
+is_run other = false

@@ -1,6 +1,7 @@
 -- What the stages of a command answer.
 use Rattle.std.specs.Prelude.{◌≡◌, ℕ, ◌⊎◌, List, [], ◌∷◌, Option, Some, None}
 use Rattle.mach_base.specs.declared.event.Ending.{Ending}
+use Rattle.mach_base.specs.declared.event.Entry.{Entry}
 use Rattle.plan_text.specs.Ticks.{Run, ticks_of}
 use Rattle.jrn_text.specs.Journal.{journal_text}
 use Rattle.io_edge.specs.Edge.{FileMap}
@@ -8,7 +9,7 @@ use Rattle.hart_prog.specs.Plan.{hart_numbers}
 use Rattle.bus_core.specs.Core.{entries_of}
 use Rattle.bus_core.specs.Origin.{Origin}
 use Rattle.bus_calls.specs.declared.bus.CoreBus.{CoreBus}
-use Rattle.kdbsim_runs.specs.Record.{IsRecord}
+use Rattle.kdbsim_runs.specs.Record.{IsRecord, ending_in}
 use Rattle.kdbsim_runs.specs.Lockstep.{IsTicked}
 use Rattle.program_words.specs.Words.{Text}
 use Rattle.program_words.specs.Commands.{replay}
@@ -43,3 +44,10 @@ pub record IsTickedRecord (start : Origin) (options : Options) (plan : List Run)
   pub ticked : IsTicked start options.rounds (hart_numbers (ticks_of plan)) bus
   pub recorded : IsRecord start (entries_of bus.core) ending text
   pub text_is : journal ≡ journal_text options.harts options.steps (entries_of bus.core)
+
+-- the record of a run of threads, which has ended, and its journal's text
+pub record IsThreadedRecord (start : Origin) (options : Options) (ending : Ending) (text journal : List ℕ) : Type 0 where
+  pub entries : List Entry
+  pub recorded : IsRecord start entries ending text
+  pub ends : ending_in entries ≡ Some ending
+  pub text_is : journal ≡ journal_text options.harts options.steps entries

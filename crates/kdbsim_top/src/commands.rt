@@ -1,4 +1,4 @@
-//! The commands that need no other threads, up to what is to be written.
+//! The commands, up to what is to be written.
 ghost use Rattle.std.specs.Prelude.{◌≡◌, ◌≤◌, [], false, IfOk, MatchResult};
 ghost use Rattle.plan_text.specs.Ticks.{AreBelow, ticks_of};
 ghost use Rattle.program_words.specs.Laws.{AreWithin};
@@ -9,19 +9,24 @@ ghost use Rattle.bus_core.specs.Origin.{Origin};
 ghost use Rattle.kdbsim_runs.specs.Record.{IsRecord};
 ghost use Rattle.kdbsim_files.specs.Files.{FailsAt};
 ghost use Rattle.kdbsim_files.specs.declared.status.Status.TheVariants.{OutOfMemory as NoMemory};
-ghost use Rattle.kdbsim_top.specs.Runs.{IsUniRun, IsReplayed, IsLockstep, inputs_of};
-ghost use Rattle.kdbsim_top.specs.Stages.{FailsReplay, IsTickedRecord, outcome, journaled, origin_of};
+ghost use Rattle.kdbsim_top.specs.Runs.{IsUniRun, IsReplayed, IsLockstep, IsRun, inputs_of};
+ghost use Rattle.kdbsim_top.specs.Stages.{FailsReplay, IsThreadedRecord, IsTickedRecord, outcome, journaled, origin_of};
 
 use crate::inputs::{Start, StartNames, read_start};
 use crate::uni::run_uni;
 use bus_core::Core;
+use deck_core::Pause;
 use io_edge::Shelf;
 use kdbsim_files::{Status, image_input, journal_input, plan_input, script_input};
-use kdbsim_runs::{Pace, ReplayFault, Told, record_of, replay, run_plan_of, write_record};
+use kdbsim_runs::{
+    Pace, ReplayFault, Told, record_of, replay, run_plan_of, run_threads, write_record,
+};
 use mach_base::OutOfMemory;
 use plan_text::Plan;
 use program_words::Options;
 use std::alloc::Global;
+use std::sync::Wait;
+use std::thread::Threads;
 
 /// How a run ended, its transcript, and the text of its journal.
 #[derive(Debug, Drop)]
@@ -118,13 +123,71 @@ fn tick_all(
     requires below { AreBelow options.harts (ticks_of plan.now) }
     ensures { IfOk result (λ r. IsTickedRecord (origin_of start options) options plan.now r.told.ending r.told.transcript.items r.journal.items) }
 {
-    let pace = Pace {
-        harts: options.harts,
-        limit: options.steps,
-        rounds: options.rounds,
-    };
+    let pace = pace_of(options);
     let bus = run_plan_of(alloc, &start.image, start.names, start.script, pace, plan)?;
     let told = record_of(alloc, bus.core())?;
     let journal = write_record(alloc, bus.core(), options.harts, options.steps)?;
     Ok(Recorded { told, journal })
+}
+
+/// Reads the files of `run`, and runs the harts beside each other to their end.
+pub fn run_files<R: Threads + Wait + Sync, F: Shelf, P: Pause + Copy + Send>(
+    rt: &R,
+    alloc: Global,
+    shelf: &mut F,
+    names: StartNames<'_>,
+    options: Options,
+    pause: P,
+) -> Result<Recorded, Status>
+    requires within { AreWithin options }
+    ensures cause { MatchResult result
+        (λ r. (journal : Text) → IsRun (F.contents shelf.old) names.image.now names.map.now names.script.now journal options (journaled r.told.ending r.told.transcript.items journal r.journal.items))
+        (FailsAt (F.contents shelf.old) (inputs_of (words.run names.image.now names.map.now names.script.now [] options)) (F.faults shelf.old) (F.faults shelf.new)) }
+    ensures kept { F.contents shelf.new ≡ F.contents shelf.old }
+    ensures count { F.faults shelf.old ≤ F.faults shelf.new }
+{
+    let start = read_start(alloc, shelf, names)?;
+    match run_all_harts(rt, alloc, start, options, pause) {
+        Ok(recorded) => Ok(recorded),
+        Err(OutOfMemory) => Err(Status::OutOfMemory),
+    }
+}
+
+/// Runs the harts beside each other from this start.
+fn run_all_harts<R: Threads + Wait + Sync, P: Pause + Copy + Send>(
+    rt: &R,
+    alloc: Global,
+    start: Start,
+    options: Options,
+    pause: P,
+) -> Result<Recorded, OutOfMemory>
+    requires within { AreWithin options }
+    ensures { IfOk result (λ r. IsThreadedRecord (origin_of start options) options r.told.ending r.told.transcript.items r.journal.items) }
+{
+    let pace = pace_of(options);
+    let bus = run_threads(
+        rt,
+        alloc,
+        &start.image,
+        start.names,
+        start.script,
+        pace,
+        pause,
+    )?;
+    let told = record_of(alloc, bus.core())?;
+    let journal = write_record(alloc, bus.core(), options.harts, options.steps)?;
+    Ok(Recorded { told, journal })
+}
+
+/// The numbers of a run.
+fn pace_of(options: Options) -> Pace
+    ensures harts { result.harts ≡ options.harts }
+    ensures limit { result.limit ≡ options.steps }
+    ensures rounds { result.rounds ≡ options.rounds }
+{
+    Pace {
+        harts: options.harts,
+        limit: options.steps,
+        rounds: options.rounds,
+    }
 }

@@ -20,4 +20,4 @@ mod uni;
 
 pub use kdbsim_files::{File, Status, status_code, status_line};
 pub use laws::{refusals_exclude_other_answers, right_files_end_the_run};
-pub use top::kdbsim;
+pub use top::{alone, kdbsim};

@@ -1,4 +1,5 @@
 use super::*;
+use deck_core::Counted;
 use io_edge::{MemShelf, MemSink, Named};
 use mach_base::{Ending, Text};
 use std::alloc::{AllocError, Global};
@@ -81,8 +82,8 @@ fn lockstep_writes_its_journal(rt: HostRuntime) -> Result<(), Fail> {
     let mut shelf = shelf_of(alloc, PLAN, "", 9)?;
     let mut sink = MemSink::new(alloc, [9].to_vec(alloc)?, 0);
     let words = words(alloc, LOCKSTEP)?;
-    let status = kdbsim(alloc, words.as_slice(), &mut shelf, &mut sink);
-    assert_eq!(rt; status, Status::Done(Ending::ScriptEnd));
+    let status = alone(alloc, words.as_slice(), &mut shelf, &mut sink);
+    assert_eq!(rt; status, Some(Status::Done(Ending::ScriptEnd)));
     assert_eq!(rt; sink.bytes(), TRANSCRIPT.as_bytes());
     assert_eq!(rt; shelf.bytes("out"), Some(JOURNAL.as_bytes()));
     Ok(())
@@ -103,8 +104,8 @@ fn replay_takes_just_the_legal_journals(rt: HostRuntime) -> Result<(), Fail> {
         let mut sink = MemSink::new(alloc, [9].to_vec(alloc)?, 0);
         let words = words(alloc, "replay i m s j")?;
         assert_eq!(rt;
-            kdbsim(alloc, words.as_slice(), &mut shelf, &mut sink),
-            want
+            alone(alloc, words.as_slice(), &mut shelf, &mut sink),
+            Some(want)
         );
         if want == Status::Done(Ending::ScriptEnd) {
             assert_eq!(rt; sink.bytes(), TRANSCRIPT.as_bytes());
@@ -129,8 +130,8 @@ fn what_fails_is_named(rt: HostRuntime) -> Result<(), Fail> {
         let mut sink = MemSink::new(alloc, [sink_fails].to_vec(alloc)?, 0);
         let words = words(alloc, line)?;
         assert_eq!(rt;
-            kdbsim(alloc, words.as_slice(), &mut shelf, &mut sink),
-            want
+            alone(alloc, words.as_slice(), &mut shelf, &mut sink),
+            Some(want)
         );
         assert!(rt; sink.bytes().is_empty());
         assert_eq!(rt; shelf.bytes("out").is_some(), sink_fails == 0);
@@ -144,7 +145,38 @@ fn one_hart_runs_to_its_end(rt: HostRuntime) -> Result<(), Fail> {
     let mut shelf = shelf_of(alloc, "", "", 9)?;
     let mut sink = MemSink::new(alloc, [9].to_vec(alloc)?, 0);
     let words = words(alloc, "uni i s")?;
-    let status = kdbsim(alloc, words.as_slice(), &mut shelf, &mut sink);
-    assert_eq!(rt; status, Status::Done(Ending::AllHalted));
+    let status = alone(alloc, words.as_slice(), &mut shelf, &mut sink);
+    assert_eq!(rt; status, Some(Status::Done(Ending::AllHalted)));
     Ok(())
 }
+
+#[test]
+fn run_writes_its_journal(rt: HostRuntime) -> Result<(), Fail> {
+    let alloc = rt.alloc();
+    let mut files = Vec::new(alloc);
+    files.push(named(alloc, "i", "kimg 1\ntext 0x1000 8\nw 0x0000006f\n")?)?;
+    files.push(named(alloc, "m", "")?)?;
+    files.push(named(alloc, "s", "bp 1000\ngo\ngo\n")?)?;
+    let mut shelf = MemShelf::new(alloc, files, [9].to_vec(alloc)?);
+    let mut sink = MemSink::new(alloc, [9].to_vec(alloc)?, 0);
+    let words = words(alloc, "run i m s out")?;
+    assert!(rt; alone(alloc, words.as_slice(), &mut shelf, &mut sink).is_none());
+    let pause = Counted::new();
+    let status = kdbsim(&rt, alloc, words.as_slice(), &mut shelf, &mut sink, pause);
+    assert_eq!(rt; status, Status::Done(Ending::ScriptEnd));
+    assert_eq!(rt; sink.bytes(), JUMP_TEXT.as_bytes());
+    assert_eq!(rt; shelf.bytes("out"), Some(JUMP_JOURNAL.as_bytes()));
+    Ok(())
+}
+
+const JUMP_TEXT: &str = "Entering kdb on processor 0 due to Start @ 0x0000000000001000
+[0]kdb> bp 1000
+BP #0 at 0x0000000000001000 enabled
+[0]kdb> go
+Entering kdb on processor 0 due to Breakpoint 0 @ 0x0000000000001000
+[0]kdb> go
+Entering kdb on processor 0 due to Breakpoint 0 @ 0x0000000000001000
+[0]kdb> \nkdbsim: script end after 2 steps\n";
+
+const JUMP_JOURNAL: &str = "kjrn 1 harts 1 steps 1000000
+O 0 -\nL 0\nL 0\nS 0\nP 0\nE 0\nO 0 -\nU 0\nL 0\nS 0\nP 0\nE 0\nO 0 -\nU 0\nF script\n";

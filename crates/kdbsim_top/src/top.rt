@@ -1,35 +1,42 @@
 //! The top call.
-ghost use Rattle.std.specs.Prelude.{◌≡◌, map, None, MatchOption};
+ghost use Rattle.std.specs.Prelude.{◌≡◌, false, map, None, MatchOption};
 ghost use Rattle.std.specs.String.{string_bytes};
 ghost use Rattle.program_words.specs.Commands.{command_of};
 ghost use Rattle.program_words.specs.Commands as words;
 ghost use Rattle.program_words.specs.Laws.{AreWithin, IsCommandWithin};
 ghost use Rattle.program_words.specs.Views.{command_view};
 ghost use Rattle.kdbsim_files.specs.declared.status.Status.TheVariants.{Usage};
-ghost use Rattle.kdbsim_top.specs.Causes.{Explains, IsNoCommand};
+ghost use Rattle.kdbsim_top.specs.Causes.{Explains, IsAnswer, IsAnswerAlone, IsForThreads};
+ghost use Rattle.kdbsim_top.specs.Runs.{is_run};
 
-use crate::commands::{lockstep, replay_files, uni};
+use crate::commands::{lockstep, replay_files, run_files, uni};
 use crate::inputs::StartNames;
 use crate::publish::{print, publish};
+use deck_core::Pause;
 use io_edge::{Shelf, Sink};
 use kdbsim_files::Status;
 use program_words::{Command, Options, WordsFault, command_of};
 use std::alloc::Global;
+use std::sync::Wait;
+use std::thread::Threads;
 
 /// All that the program does: reads its words, reads the files that they name from the shelf, runs the machine, writes the
 /// journal, if the command has one, and puts the transcript into the sink in one call. The answer says how the run ended, or
-/// why there was none; each has its cause (docs/theorems.md).
-pub fn kdbsim<F: Shelf, O: Sink>(
+/// why there was none; each has its cause (docs/theorems.md). The workers of `run` are threads of `rt`, and each pauses on
+/// its own copy of `pause` where its hart can't go on; the call may wait for one of them for ever.
+pub fn kdbsim<R: Threads + Wait + Sync, F: Shelf, O: Sink, P: Pause + Copy + Send>(
+    rt: &R,
     alloc: Global,
     words: &[String],
     shelf: &mut F,
     out: &mut O,
+    pause: P,
 ) -> Status
     // Usage comes only where the words ask for no command.
     ensures usage { result ≡ Usage → command_of (map string_bytes words.now) ≡ None }
 
     // Every answer has its cause; that of Done is the headline.
-    ensures cause { MatchOption (command_of (map string_bytes words.now)) (IsNoCommand (record {
+    ensures cause { IsAnswer (record {
       files_before = F.contents shelf.old;
       files_after = F.contents shelf.new;
       shelf_before = F.faults shelf.old;
@@ -38,25 +45,66 @@ pub fn kdbsim<F: Shelf, O: Sink>(
       taken_after = O.taken out.new;
       sink_before = O.faults out.old;
       sink_after = O.faults out.new;
-    }) result) (λ command. Explains (record {
-      files_before = F.contents shelf.old;
-      files_after = F.contents shelf.new;
-      shelf_before = F.faults shelf.old;
-      shelf_after = F.faults shelf.new;
-      taken_before = O.taken out.old;
-      taken_after = O.taken out.new;
-      sink_before = O.faults out.old;
-      sink_after = O.faults out.new;
-    }) command result) }
+    }) (command_of (map string_bytes words.now)) result }
 {
     match command_of(words, alloc) {
+        Ok(
+            Command::Run {
+                image,
+                map,
+                script,
+                journal,
+                options,
+            },
+        ) => {
+            let names = StartNames { image, map, script };
+            answer_run(rt, alloc, shelf, out, names, journal, options, pause)
+        }
         Ok(command) => answer(alloc, command, shelf, out),
         Err(WordsFault::Usage) => Status::Usage,
         Err(WordsFault::OutOfMemory) => Status::OutOfMemory,
     }
 }
 
-/// The answer to a command.
+/// The same of every command but `run`, without a wait: the call returns. None comes exactly where the words ask for `run`,
+/// and then nothing was read and nothing written.
+pub fn alone<F: Shelf, O: Sink>(
+    alloc: Global,
+    words: &[String],
+    shelf: &mut F,
+    out: &mut O,
+) -> Option<Status>
+    ensures { MatchOption result
+        (IsForThreads (record {
+          files_before = F.contents shelf.old;
+          files_after = F.contents shelf.new;
+          shelf_before = F.faults shelf.old;
+          shelf_after = F.faults shelf.new;
+          taken_before = O.taken out.old;
+          taken_after = O.taken out.new;
+          sink_before = O.faults out.old;
+          sink_after = O.faults out.new;
+        }) (command_of (map string_bytes words.now)))
+        (IsAnswerAlone (record {
+          files_before = F.contents shelf.old;
+          files_after = F.contents shelf.new;
+          shelf_before = F.faults shelf.old;
+          shelf_after = F.faults shelf.new;
+          taken_before = O.taken out.old;
+          taken_after = O.taken out.new;
+          sink_before = O.faults out.old;
+          sink_after = O.faults out.new;
+        }) (command_of (map string_bytes words.now))) }
+{
+    match command_of(words, alloc) {
+        Ok(Command::Run { .. }) => None,
+        Ok(command) => Some(answer(alloc, command, shelf, out)),
+        Err(WordsFault::Usage) => Some(Status::Usage),
+        Err(WordsFault::OutOfMemory) => Some(Status::OutOfMemory),
+    }
+}
+
+/// The answer to a command other than `run`.
 fn answer<F: Shelf, O: Sink>(
     alloc: Global,
     command: Command<'_>,
@@ -64,6 +112,7 @@ fn answer<F: Shelf, O: Sink>(
     out: &mut O,
 ) -> Status
     requires within { IsCommandWithin (command_view command) }
+    requires alone { is_run (command_view command) ≡ false }
     ensures cause { Explains (record {
       files_before = F.contents shelf.old;
       files_after = F.contents shelf.new;
@@ -86,7 +135,6 @@ fn answer<F: Shelf, O: Sink>(
             let names = StartNames { image, map, script };
             answer_replay(alloc, shelf, out, names, journal)
         }
-        Command::Run { .. } => Status::Usage,
         Command::Lockstep {
             image,
             map,
@@ -98,6 +146,7 @@ fn answer<F: Shelf, O: Sink>(
             let names = StartNames { image, map, script };
             answer_lockstep(alloc, shelf, out, names, plan, journal, options)
         }
+        Command::Run { .. } => unreachable!(),
     }
 }
 
@@ -174,6 +223,35 @@ fn answer_lockstep<F: Shelf, O: Sink>(
     }) (words.lockstep names.image.now names.map.now names.script.now plan.now journal.now options) result }
 {
     match lockstep(alloc, shelf, names, plan, options) {
+        Ok(recorded) => publish(shelf, out, journal, recorded),
+        Err(status) => status,
+    }
+}
+
+/// The command `run`.
+fn answer_run<R: Threads + Wait + Sync, F: Shelf, O: Sink, P: Pause + Copy + Send>(
+    rt: &R,
+    alloc: Global,
+    shelf: &mut F,
+    out: &mut O,
+    names: StartNames<'_>,
+    journal: &str,
+    options: Options,
+    pause: P,
+) -> Status
+    requires within { AreWithin options }
+    ensures cause { Explains (record {
+      files_before = F.contents shelf.old;
+      files_after = F.contents shelf.new;
+      shelf_before = F.faults shelf.old;
+      shelf_after = F.faults shelf.new;
+      taken_before = O.taken out.old;
+      taken_after = O.taken out.new;
+      sink_before = O.faults out.old;
+      sink_after = O.faults out.new;
+    }) (words.run names.image.now names.map.now names.script.now journal.now options) result }
+{
+    match run_files(rt, alloc, shelf, names, options, pause) {
         Ok(recorded) => publish(shelf, out, journal, recorded),
         Err(status) => status,
     }

@@ -2,7 +2,7 @@
 ghost use Rattle.std.specs.Prelude.{◌≡◌, ◌≤◌, false, IfOk, IfErr};
 ghost use Rattle.mach_base.specs.declared.limits.TheConstants.{MOST_HARTS, MOST_STEPS};
 ghost use Rattle.bus_core.specs.Core.{entries_of, ComesFrom};
-ghost use Rattle.kdbsim_runs.specs.declared.replay.ReplayFault.TheVariants as replay_faults;
+ghost use Rattle.kdbsim_runs.specs.declared.replays.ReplayFault.TheVariants as replay_faults;
 ghost use Rattle.kdbsim_runs.specs.Replay.{IsBadStep, Refuses};
 
 use atom_mach::Script;
@@ -48,11 +48,13 @@ pub fn replay(
     ensures bad_step { IfErr result (Refuses (record { image = image.now; symbols = names; lines = script; harts = journal.now.harts; limit = journal.now.limit }) journal.now.entries.entries) }
 {
     let mut core = Core::start(alloc, image, names, script, journal.harts, journal.limit)?;
-    let mut index: u64 = 0;
     for entry in journal.entries.iter() {
         match core.apply(entry) {
-            Ok(()) => index += 1,
-            Err(ApplyFault::NotLegal) => return Err(ReplayFault::BadStep { index }),
+            Ok(()) => {}
+            Err(ApplyFault::NotLegal) => {
+                let index = core.journal().len();
+                return Err(ReplayFault::BadStep { index });
+            }
             Err(ApplyFault::OutOfMemory) => return Err(ReplayFault::OutOfMemory),
         }
     }
