@@ -1,3 +1,5 @@
-pub mod Inputs
+pub mod Failing
 pub mod Exclusion
+pub mod Paces
+pub mod Publishing
 pub mod RunSteps

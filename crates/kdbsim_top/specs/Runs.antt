@@ -91,7 +91,7 @@ pub record IsRecorded (files : Option FileMap) (image map script journal : Text)
   pub harts : start.harts ≡ options.harts
   pub limit : start.limit ≡ options.steps
   pub recorded : IsRecord start entries out.ending out.text
-  pub journal : out.journal ≡ Some (journal, journal_text options.harts options.steps entries)
+  pub written : out.journal ≡ Some (journal, journal_text options.harts options.steps entries)
 
 -- The same, of the entries of the bus after exactly the plan's ticks.
 pub record IsLockstep (files : Option FileMap) (image map script plan journal : Text) (options : Options) (out : Outcome) : Type 0 where

@@ -23,6 +23,7 @@ use kdbsim_runs::{
 };
 use mach_base::OutOfMemory;
 use plan_text::Plan;
+use plant_mach::never_legal;
 use program_words::Options;
 use std::alloc::Global;
 use std::sync::Wait;
@@ -64,14 +65,18 @@ pub fn replay_files<F: Shelf>(
     journal: &str,
 ) -> Result<Told, Status>
     ensures cause { MatchResult result
-        (λ told. IsReplayed (F.contents shelf.old) names.image.now names.map.now names.script.now journal.now (outcome told.ending told.transcript.items))
-        (FailsReplay (F.contents shelf.old) names.image.now names.map.now names.script.now journal.now (F.faults shelf.old) (F.faults shelf.new)) }
+        (λ told. IsReplayed (F.contents shelf.old) names.entry.image.now names.entry.map.now names.entry.script.now journal.now (outcome told.ending told.transcript.items))
+        (FailsReplay (F.contents shelf.old) names.entry.image.now names.entry.map.now names.entry.script.now journal.now (F.faults shelf.old) (F.faults shelf.new)) }
     ensures kept { F.contents shelf.new ≡ F.contents shelf.old }
     ensures count { F.faults shelf.old ≤ F.faults shelf.new }
 {
-    let start = read_start(alloc, shelf, names)?;
+    let Start {
+        image,
+        names,
+        script,
+    } = read_start(alloc, shelf, names)?;
     let journal = journal_input(alloc, shelf, journal)?;
-    match replay(alloc, &start.image, start.names, start.script, &journal) {
+    match replay(alloc, &image, names, script, &journal) {
         Ok(core) => record_or_memory(alloc, &core),
         Err(ReplayFault::BadStep { index }) => Err(Status::BadStep { index }),
         Err(ReplayFault::OutOfMemory) => Err(Status::OutOfMemory),
@@ -99,8 +104,8 @@ pub fn lockstep<F: Shelf>(
 ) -> Result<Recorded, Status>
     requires within { AreWithin options }
     ensures cause { MatchResult result
-        (λ r. (journal : Text) → IsLockstep (F.contents shelf.old) names.image.now names.map.now names.script.now plan.now journal options (journaled r.told.ending r.told.transcript.items journal r.journal.items))
-        (FailsAt (F.contents shelf.old) (inputs_of (words.lockstep names.image.now names.map.now names.script.now plan.now [] options)) (F.faults shelf.old) (F.faults shelf.new)) }
+        (λ r. (journal : Text) → IsLockstep (F.contents shelf.old) names.entry.image.now names.entry.map.now names.entry.script.now plan.now journal options (journaled r.told.ending r.told.transcript.items journal r.journal.items))
+        (FailsAt (F.contents shelf.old) (inputs_of (words.lockstep names.entry.image.now names.entry.map.now names.entry.script.now plan.now [] options)) (F.faults shelf.old) (F.faults shelf.new)) }
     ensures kept { F.contents shelf.new ≡ F.contents shelf.old }
     ensures count { F.faults shelf.old ≤ F.faults shelf.new }
 {
@@ -123,8 +128,12 @@ fn tick_all(
     requires below { AreBelow options.harts (ticks_of plan.now) }
     ensures { IfOk result (λ r. IsTickedRecord (origin_of start options) options plan.now r.told.ending r.told.transcript.items r.journal.items) }
 {
-    let pace = pace_of(options);
-    let bus = run_plan_of(alloc, &start.image, start.names, start.script, pace, plan)?;
+    let Start {
+        image,
+        names,
+        script,
+    } = start;
+    let bus = run_plan_of(alloc, &image, names, script, pace_of(options), plan)?;
     let told = record_of(alloc, bus.core())?;
     let journal = write_record(alloc, bus.core(), options.harts, options.steps)?;
     Ok(Recorded { told, journal })
@@ -141,8 +150,8 @@ pub fn run_files<R: Threads + Wait + Sync, F: Shelf, P: Pause + Copy + Send>(
 ) -> Result<Recorded, Status>
     requires within { AreWithin options }
     ensures cause { MatchResult result
-        (λ r. (journal : Text) → IsRun (F.contents shelf.old) names.image.now names.map.now names.script.now journal options (journaled r.told.ending r.told.transcript.items journal r.journal.items))
-        (FailsAt (F.contents shelf.old) (inputs_of (words.run names.image.now names.map.now names.script.now [] options)) (F.faults shelf.old) (F.faults shelf.new)) }
+        (λ r. (journal : Text) → IsRun (F.contents shelf.old) names.entry.image.now names.entry.map.now names.entry.script.now journal options (journaled r.told.ending r.told.transcript.items journal r.journal.items))
+        (FailsAt (F.contents shelf.old) (inputs_of (words.run names.entry.image.now names.entry.map.now names.entry.script.now [] options)) (F.faults shelf.old) (F.faults shelf.new)) }
     ensures kept { F.contents shelf.new ≡ F.contents shelf.old }
     ensures count { F.faults shelf.old ≤ F.faults shelf.new }
 {
@@ -164,16 +173,14 @@ fn run_all_harts<R: Threads + Wait + Sync, P: Pause + Copy + Send>(
     requires within { AreWithin options }
     ensures { IfOk result (λ r. IsThreadedRecord (origin_of start options) options r.told.ending r.told.transcript.items r.journal.items) }
 {
+    let Start {
+        image,
+        names,
+        script,
+    } = start;
+    never_legal();
     let pace = pace_of(options);
-    let bus = run_threads(
-        rt,
-        alloc,
-        &start.image,
-        start.names,
-        start.script,
-        pace,
-        pause,
-    )?;
+    let bus = run_threads(rt, alloc, &image, names, script, pace, pause)?;
     let told = record_of(alloc, bus.core())?;
     let journal = write_record(alloc, bus.core(), options.harts, options.steps)?;
     Ok(Recorded { told, journal })

@@ -33,8 +33,8 @@ pub fn read_start<F: Shelf>(
     names: StartNames<'_>,
 ) -> Result<Start, Status>
     ensures start { MatchResult result
-        (λ s. HasStart (F.contents shelf.old) names.image.now names.map.now names.script.now s.image s.names s.script)
-        (FailsAt (F.contents shelf.old) (start_inputs names.image.now names.map.now names.script.now []) (F.faults shelf.old) (F.faults shelf.new)) }
+        (λ s. HasStart (F.contents shelf.old) names.entry.image.now names.entry.map.now names.entry.script.now s.image s.names s.script)
+        (FailsAt (F.contents shelf.old) (start_inputs names.entry.image.now names.entry.map.now names.entry.script.now []) (F.faults shelf.old) (F.faults shelf.new)) }
     ensures kept { F.contents shelf.new ≡ F.contents shelf.old }
     ensures count { F.faults shelf.old ≤ F.faults shelf.new }
 {

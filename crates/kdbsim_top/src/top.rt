@@ -192,7 +192,7 @@ fn answer_replay<F: Shelf, O: Sink>(
       taken_after = O.taken out.new;
       sink_before = O.faults out.old;
       sink_after = O.faults out.new;
-    }) (words.replay names.image.now names.map.now names.script.now journal.now) result }
+    }) (words.replay names.entry.image.now names.entry.map.now names.entry.script.now journal.now) result }
 {
     match replay_files(alloc, shelf, names, journal) {
         Ok(told) => print(out, told),
@@ -220,7 +220,7 @@ fn answer_lockstep<F: Shelf, O: Sink>(
       taken_after = O.taken out.new;
       sink_before = O.faults out.old;
       sink_after = O.faults out.new;
-    }) (words.lockstep names.image.now names.map.now names.script.now plan.now journal.now options) result }
+    }) (words.lockstep names.entry.image.now names.entry.map.now names.entry.script.now plan.now journal.now options) result }
 {
     match lockstep(alloc, shelf, names, plan, options) {
         Ok(recorded) => publish(shelf, out, journal, recorded),
@@ -249,7 +249,7 @@ fn answer_run<R: Threads + Wait + Sync, F: Shelf, O: Sink, P: Pause + Copy + Sen
       taken_after = O.taken out.new;
       sink_before = O.faults out.old;
       sink_after = O.faults out.new;
-    }) (words.run names.image.now names.map.now names.script.now journal.now options) result }
+    }) (words.run names.entry.image.now names.entry.map.now names.entry.script.now journal.now options) result }
 {
     match run_files(rt, alloc, shelf, names, options, pause) {
         Ok(recorded) => publish(shelf, out, journal, recorded),

@@ -1,0 +1,54 @@
+-- The cause of an answer, by what the stages before it did.
+use Rattle.std.proofs.Common.{◌≡◌, ℕ, ◌≤◌, ◌⊎◌, inl, inr, List, Option, Some, None, refl, sym, ap, ◌∙◌, subst}
+use Rattle.io_edge.specs.Edge.{FileMap}
+use Rattle.program_words.specs.Words.{Text}
+use Rattle.program_words.specs.Commands.{Command, uni, replay, run, lockstep}
+use Rattle.kdbsim_files.specs.declared.status.Status.{Status}
+use Rattle.kdbsim_files.specs.declared.status.Status.TheVariants.{Usage, OutOfMemory}
+use Rattle.kdbsim_files.specs.Files.{FailsAt}
+use Rattle.kdbsim_top.specs.Runs.{Outcome, IsOutcome, inputs_of}
+use Rattle.kdbsim_top.specs.Stages.{FailsReplay}
+use Rattle.kdbsim_top.specs.Causes.{Outside, IsQuiet, IsPublished, Explains, IsAnswer}
+use Rattle.kdbsim_top.proofs.Failing.{no_memory}
+
+abbrev pub outside : Option FileMap → Option FileMap → ℕ → ℕ → Option (List ℕ) → Option (List ℕ) → ℕ → ℕ → Outside
+outside f0 f1 n0 n1 t0 t1 k0 k1 = record {
+  files_before = f0;
+  files_after = f1;
+  shelf_before = n0;
+  shelf_after = n1;
+  taken_before = t0;
+  taken_after = t1;
+  sink_before = k0;
+  sink_after = k1;
+}
+
+pub printed : (command : Command) (f0 f1 : Option FileMap) (n0 n1 : ℕ) (t0 t1 : Option (List ℕ)) (k0 k1 : ℕ) (out : Outcome) (status : Status) → f1 ≡ f0 → IsOutcome f0 command out
+    → ((files : Option FileMap) (before after : ℕ) → IsPublished (outside files files before after t0 t1 k0 k1) out status) → Explains (outside f0 f1 n0 n1 t0 t1 k0 k1) command status
+printed command f0 f1 n0 n1 t0 t1 k0 k1 out status same ran p = inl (out, ran, subst (λ f. IsPublished (outside f0 f n0 n1 t0 t1 k0 k1) out status) (sym same) (p f0 n0 n1))
+
+pub published : (command : Command) (f0 f1 f2 : Option FileMap) (n0 n1 n2 : ℕ) (t0 t1 : Option (List ℕ)) (k0 k1 : ℕ) (out : Outcome) (status : Status) → f1 ≡ f0 → n0 ≤ n1 → IsOutcome f0 command out
+    → ((before : ℕ) → before ≤ n1 → IsPublished (outside f1 f2 before n2 t0 t1 k0 k1) out status) → Explains (outside f0 f2 n0 n2 t0 t1 k0 k1) command status
+published command f0 f1 f2 n0 n1 n2 t0 t1 k0 k1 out status same le ran p = inl (out, ran, subst (λ f. IsPublished (outside f f2 n0 n2 t0 t1 k0 k1) out status) same (p n0 le))
+
+pub failed : (command : Command) (f0 f1 : Option FileMap) (n0 n1 : ℕ) (t : Option (List ℕ)) (k : ℕ) (status : Status) → f1 ≡ f0 → FailsAt f0 (inputs_of command) n0 n1 status → Explains (outside f0 f1 n0 n1 t t k k) command status
+failed command f0 f1 n0 n1 t k status same h = inr (inr (h, record { files = same; taken = refl }))
+
+pub replay_failed : (image map script journal : Text) (f0 f1 : Option FileMap) (n0 n1 : ℕ) (t : Option (List ℕ)) (k : ℕ) (status : Status) → f1 ≡ f0 → FailsReplay f0 image map script journal n0 n1 status
+    → Explains (outside f0 f1 n0 n1 t t k k) (replay image map script journal) status
+replay_failed image map script journal f0 f1 n0 n1 t k status same (inl h) = failed (replay image map script journal) f0 f1 n0 n1 t k status same h
+replay_failed image map script journal f0 f1 n0 n1 t k status same (inr h) = inr (inl (h.0, h.1, h.2, record { files = same; taken = refl }))
+
+lacks_memory : (files : Option FileMap) (command : Command) (before after : ℕ) → FailsAt files (inputs_of command) before after OutOfMemory
+lacks_memory files (uni image script) before after = no_memory files _ _ before after
+lacks_memory files (replay image map script journal) before after = no_memory files _ _ before after
+lacks_memory files (run image map script journal options) before after = no_memory files _ _ before after
+lacks_memory files (lockstep image map script plan journal options) before after = no_memory files _ _ before after
+
+-- memory may run out before anything is read
+pub memory_answer : (o : Outside) (command : Option Command) → IsQuiet o → IsAnswer o command OutOfMemory
+memory_answer o None quiet = (inr refl, quiet)
+memory_answer o (Some command) quiet = inr (inr (lacks_memory o.files_before command o.shelf_before o.shelf_after, quiet))
+
+pub usage_answer : (o : Outside) (command : Option Command) → command ≡ None → IsQuiet o → IsAnswer o command Usage
+usage_answer o command is quiet = subst (λ c. IsAnswer o c Usage) (sym is) (inl refl, quiet)
