@@ -1,13 +1,17 @@
 # Completion for bash: . tools/kdbsim.bash
-# The command first, then images, then scripts.
+# The command first, then its files in their order; the options of lockstep where the word begins with a dash.
 _kdbsim() {
-    local word=${COMP_WORDS[COMP_CWORD]}
-    case $COMP_CWORD in
-    1) mapfile -t COMPREPLY < <(compgen -W uni -- "$word") ;;
-    2) mapfile -t COMPREPLY < <(compgen -f -X '!*.img' -- "$word"; compgen -d -S / -- "$word") ;;
-    3) mapfile -t COMPREPLY < <(compgen -f -X '!*.kdb' -- "$word"; compgen -d -S / -- "$word") ;;
-    *) COMPREPLY=() ;;
+    local word=${COMP_WORDS[COMP_CWORD]} kinds=() kind
+    case $COMP_CWORD,${COMP_WORDS[1]-},$word in
+    1,*) mapfile -t COMPREPLY < <(compgen -W 'uni lockstep replay' -- "$word"); return 0 ;;
+    *,lockstep,-*) mapfile -t COMPREPLY < <(compgen -W '--harts= --steps= --rounds=' -- "$word"); compopt -o nospace; return 0 ;;
+    *,uni,*) kinds=(img kdb) ;;
+    *,lockstep,*) kinds=(img map kdb plan jrn) ;;
+    *,replay,*) kinds=(img map kdb jrn) ;;
     esac
+    kind=${kinds[COMP_CWORD - 2]-}
+    COMPREPLY=()
+    [ -n "$kind" ] && mapfile -t COMPREPLY < <(compgen -f -X "!*.$kind" -- "$word"; compgen -d -S / -- "$word")
     [[ ${#COMPREPLY[@]} -eq 1 && ${COMPREPLY[0]} == */ ]] && compopt -o nospace
     return 0
 }

@@ -7,6 +7,7 @@ import tempfile
 
 TOP = os.path.dirname(os.path.dirname(os.path.realpath(__file__)))
 PROGRAM = f"{TOP}/crates/kdbsim/out/kdbsim"
+SECONDS = "300"  # for one case that rt try runs: a million steps take it a minute or two
 
 
 def run_all(cases):
@@ -23,20 +24,21 @@ def run_proved(folder, words):
 
 
 def run_unproved(cases):
-    """`rt try --cases` builds once, takes the words of case N from the file N.args, and prints each output under `== N`."""
+    """`rt try --cases` builds once, takes the words of case N from the file N.args, and prints each output under `== N`. A
+    case that it doesn't end within its time has no answer."""
     with tempfile.TemporaryDirectory() as room:
         for at, (folder, words) in enumerate(cases):
             open(f"{room}/{at:04}", "w").close()
             with open(f"{room}/{at:04}.args", "w") as args:
                 args.writelines(f"{absolute(folder, word)}\n" for word in words)
-        ran = subprocess.run(["rt", "try", "--cases", room], cwd=f"{TOP}/crates/kdbsim", stdin=subprocess.DEVNULL,
+        ran = subprocess.run(["rt", "try", "--seconds", SECONDS, "--cases", room], cwd=f"{TOP}/crates/kdbsim", stdin=subprocess.DEVNULL,
                              stdout=subprocess.PIPE, stderr=subprocess.STDOUT)
     found = {}
     for it in re.finditer(rb"^== (\d{4})\n(.*?)^case=\1 run=(\S+) status=(\d+) ", ran.stdout, re.M | re.S):
         found[int(it[1])] = int(it[4]), it[2]
-    if len(found) < len(cases):
-        sys.exit(f"rt try ran {len(found)} of {len(cases)} cases; it said:\n{ran.stdout.decode(errors='replace')[-2000:]}")
-    return [found[at] for at in range(len(cases))]
+    if not found:
+        sys.exit(f"rt try gave no answer; it said:\n{ran.stdout.decode(errors='replace')[-2000:]}")
+    return [found.get(at, ("no answer", None)) for at in range(len(cases))]
 
 
 def absolute(folder, word):
