@@ -105,7 +105,7 @@ image_lines_clear labels number place (l ∷ ls) clear =
 -- what is written for a source's lines reads as the lines that stand for them
 pub lines_of-source : (ls : List (List ℕ)) → AreClear ls → lines_of (lines_text (image_header ∷ lines_for ls)) ≡ image_header ∷ lines_for ls
 lines_of-source ls clear =
-    lines_of-lines_text (image_header ∷ lines_for ls) ((refl, refl, refl, refl, refl, refl, tt), image_lines_clear (labels_of ls) 2 None ls clear)
+    lines_of-lines_text (image_header ∷ lines_for ls) ((refl, (refl, (refl, (refl, (refl, (refl, tt)))))), image_lines_clear (labels_of ls) 2 None ls clear)
 
 pub image_of-lines_text : (ls : List (List ℕ)) → AreClear ls → image_of (lines_text (image_header ∷ lines_for ls)) ≡ image_of_lines (image_header ∷ lines_for ls)
 image_of-lines_text ls clear = ap image_of_lines (lines_of-source ls clear)

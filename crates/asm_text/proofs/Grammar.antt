@@ -69,7 +69,9 @@ length_image_lines labels number place (l ∷ ls) = ap (λ (n : ℕ). suc n) (le
 -- lines before one, it, and those after it
 split_image_lines : (labels : Labels) (number : ℕ) (place : Option ℕ) (before : List (List ℕ)) (l : List ℕ) (after : List (List ℕ)) → image_lines labels number place (before ++ l ∷ after) ≡ image_lines labels number place before ++ image_line labels (number + length before) (place_behind place before) l ∷ image_lines labels (number + length before + 1) (place_after (place_behind place before) (words_of l)) after
 unfolding image_lines
-split_image_lines labels number place [] l after = refl
+split_image_lines labels number place [] l after =
+    let here : number ≡ number + 0 = omega arith in
+    ap (λ (n : ℕ). image_line labels n place l ∷ image_lines labels (n + 1) (place_after place (words_of l)) after) here
 split_image_lines labels number place (b ∷ bs) l after =
     let further : number + 1 + length bs ≡ number + suc (length bs) = omega arith in
     ap (λ (ks : List (List ℕ)). image_line labels number place b ∷ ks) (split_image_lines labels (number + 1) (place_after place (words_of b)) bs l after)
@@ -143,7 +145,7 @@ wrong_to_image labels number place es l (inr w) = (w.2.0, inr (w.0, line_reads l
 
 wrong_from_image : (labels : Labels) (number : ℕ) (place : Option ℕ) (es : List Entry) (l : List ℕ) (why : Why) → IsImageWrong es (image_line labels number place l) why → IsWrong labels number place es l
 wrong_from_image labels number place es l why (inl bad) = inl (λ e is. let good = line_reads labels number place l e is in absurd (cc))
-wrong_from_image labels number place es l why (inr w) = inr (w.0, line_from labels number place l (Some w.0) w.1, why, w.2)
+wrong_from_image labels number place es l why (inr w) = inr (w.0, line_from labels number place l (Some w.0) w.1, (why, w.2))
 
 first_bad_to_image : (first : List ℕ) (ls : List (List ℕ)) (number : ℕ) → IsFirstBad (first ∷ ls) number → (why : Why) × IsImageFirstBad (whole_image_lines ls) number why
 first_bad_to_image first ls number b =

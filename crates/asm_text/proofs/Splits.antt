@@ -67,15 +67,15 @@ split_end line [] none split = last_split-none line split.clear
 split_end line (b ∷ bs) none split = absurd (omega (arith, none))
 
 -- a line is its parts, of which the first ends with a blank and the second has none
-pub record AreParts (line front word : List ℕ) : Type 0 where
-  pub joined : line ≡ front ++ word
-  pub blank : EndsWithBlank front
-  pub one : HasNoBlank word
+pub record AreParts (line : List ℕ) (split : List ℕ × List ℕ) : Type 0 where
+  pub joined : line ≡ split.0 ++ split.1
+  pub blank : EndsWithBlank split.0
+  pub one : HasNoBlank split.1
 
-more_parts : (b : ℕ) (line front word : List ℕ) → AreParts line front word → AreParts (b ∷ line) (onto_split b (front, word)).0 (onto_split b (front, word)).1
+more_parts : (b : ℕ) (line front word : List ℕ) → AreParts line (front, word) → AreParts (b ∷ line) (onto_split b (front, word))
 more_parts b line [] word p = by (eqb b 32) refl
   where
-    by : (t : Bool) → eqb b 32 ≡ t → AreParts (b ∷ line) (cond t (b ∷ [], word) ([], b ∷ word)).0 (cond t (b ∷ [], word) ([], b ∷ word)).1
+    by : (t : Bool) → eqb b 32 ≡ t → AreParts (b ∷ line) (cond t (b ∷ [], word) ([], b ∷ word))
     by true is = record { joined = ap (λ (xs : List ℕ). b ∷ xs) p.joined; blank = inr ([], ap (λ (c : ℕ). c ∷ []) (eqb-true b 32 is)); one = p.one }
     by false is = record { joined = ap (λ (xs : List ℕ). b ∷ xs) p.joined; blank = inl refl; one = (is, p.one) }
 more_parts b line (c ∷ cs) word p = record { joined = ap (λ (xs : List ℕ). b ∷ xs) p.joined; blank = longer p.blank; one = p.one }
@@ -84,7 +84,7 @@ more_parts b line (c ∷ cs) word p = record { joined = ap (λ (xs : List ℕ). 
     longer (inl none) = absurd (cc)
     longer (inr e) = inr (b ∷ e.0, ap (λ (xs : List ℕ). b ∷ xs) e.1)
 
-pub last_split-parts : (line : List ℕ) → AreParts line (last_split line).0 (last_split line).1
+pub last_split-parts : (line : List ℕ) → AreParts line (last_split line)
 last_split-parts [] = record { joined = refl; blank = inl refl; one = tt }
 last_split-parts (b ∷ bs) = more_parts b bs (last_split bs).0 (last_split bs).1 (last_split-parts bs)
 

@@ -26,17 +26,9 @@ use Rattle.asm_text.specs.Reading.{word_line, is_first, line_by, image_line}
 use Rattle.asm_text.specs.Grammar.{GoesTo, IsWord, spelled, towards, IsLine, of_image, label, instruction}
 use Rattle.asm_text.proofs.Clear.{word_line-line_text}
 use Rattle.asm_text.proofs.Splits.{last_split-parts, last_split-is}
-use Rattle.asm_text.proofs.Words.{word_of-insn_text, word_of-is, if_goes-is, word_at-fits}
+use Rattle.asm_text.proofs.Words.{no_word, word_of-insn_text, word_of-is, if_goes-is, word_at-fits}
 
 -- ---- words
-
--- a line that is no spelling means no word
-no_word : (line : List ℕ) → ((w : ℕ) → w < 2 ^ 32 → line ≡ insn_text w → ⊥) → word_of line ≡ None
-no_word line other = by (word_of line) refl
-  where
-    by : (o : Option ℕ) → word_of line ≡ o → o ≡ None
-    by None is = refl
-    by (Some w) is = let it = word_of-is line w is in absurd (other w it.fits it.spelling)
 
 pub word_at-is : (labels : Labels) (place : Option ℕ) (line : List ℕ) (word : ℕ) → IsWord labels place line word → word_at labels place line ≡ Some word
 unfolding word_at
@@ -132,6 +124,11 @@ line_as : (labels : Labels) (number : ℕ) (place : Option ℕ) (l : List ℕ) (
 unfolding image_line
 line_as labels number place l kind is = ap (λ k. line_by k labels number place l) is
 
+-- an empty line does nothing
+empty_line : line_of (words_of []) ≡ Ok None
+unfolding line_of words_of
+empty_line = refl
+
 first_given : (labels : Labels) (name : List ℕ) (there : Given) (number : ℕ) → given labels name ≡ Some there → there.line ≡ number → is_given_at (given labels name) number ≡ true
 first_given labels name there number is at = ap (λ g. is_given_at g number) is ∙ eq-eqb there.line number at
 
@@ -153,11 +150,7 @@ line_reads labels number place l e (label k name there kind_is names is at) =
     ap (λ (xs : List ℕ). line_of (words_of xs)) (line_as labels number place l Label kind_is)
     ∙ ap (λ o. line_of (words_of (cond (is_first labels number o) [] l))) names
     ∙ ap (λ t. line_of (words_of (cond t [] l))) (first_given labels name there number is at)
-    ∙ nothing_there
-  where
-    nothing_there : line_of (words_of []) ≡ Ok None
-    unfolding line_of words_of
-    nothing_there = refl
+    ∙ empty_line
 line_reads labels number place l e (instruction k w kind_is word) =
     let at = word_at-is labels place (trimmed l) w word in
     ap (λ (xs : List ℕ). line_of (words_of xs)) (line_as labels number place l Instruction kind_is)
@@ -186,10 +179,9 @@ line_from labels number place l e is = by (kind_of (words_of l)) refl
     wrong other reads = let bad = no_line (words_of l) other in absurd (cc)
 
     as_label : kind_of (words_of l) ≡ Label → (t : Bool) → is_first labels number (label_of (words_of l)) ≡ t → line_of (words_of (cond t [] l)) ≡ Ok e → IsLine labels number place l e
-    unfolding line_of words_of
     as_label k_is true first reads =
         let g = given_there labels number (label_of (words_of l)) first in
-        let none : None ≡ e = ok_same None e (Ok None) refl reads in
+        let none : None ≡ e = ok_same None e (line_of (words_of [])) empty_line reads in
         subst (λ (o : Option Entry). IsLine labels number place l o) none (label l g.0 g.1 k_is g.2 g.3 g.4)
     as_label k_is false first reads = wrong (ap is_of_image k_is) reads
 

@@ -53,11 +53,11 @@ no_source_bytes number draft [] size is = by (has_text (segments_of (reverse dra
     by true false true many large image e = absurd (cc)
     by true false false many large image e = absurd (cc)
     by false u v many large image e = absurd (cc)
-no_source_bytes number draft (l ∷ ls) size is = by (read_line draft l) is
+no_source_bytes number draft (l ∷ ls) size is = by (read_line draft l) (λ next e. no_source_bytes (number + 1) next ls size e) is
   where
-    by : (r : Result Draft Why) → (at_line number r >>= λ next. read_lines (number + 1) next ls) ≡ Err (image_faults.TooLarge SourceBytes size) → ⊥
-    by (Ok next) e = no_source_bytes (number + 1) next ls size e
-    by (Err why) e = absurd (cc)
+    by : (r : Result Draft Why) → ((next : Draft) → read_lines (number + 1) next ls ≡ Err (image_faults.TooLarge SourceBytes size) → ⊥) → (at_line number r >>= λ next. read_lines (number + 1) next ls) ≡ Err (image_faults.TooLarge SourceBytes size) → ⊥
+    by (Ok next) rest e = rest next e
+    by (Err why) rest e = absurd (cc)
 
 -- ---- texts and their lines
 
@@ -206,7 +206,7 @@ is_what_the_lines_mean text image is =
 -- ---- counts
 
 no_more_bytes : (lines : List (List ℕ)) (size : ℕ) → source_of_lines lines ≡ Err (TooLarge SourceBytes size) → ⊥
-unfolding image_of_lines
+unfolding image_of_lines read_lines words_of
 no_more_bytes lines size is =
     let i = inside_large lines SourceBytes size is in
     no_source_bytes 2 _ (lines_for i.others) size i.is

@@ -2,7 +2,6 @@
 use Rattle.std.proofs.Common.{◌≡◌, ℕ, ◌^◌, ◌<◌, Bool, true, false, cond, ◌&&◌, nat_lt, List, [], ◌∷◌, ◌++◌, Option, Some, None, refl, sym, ap, subst, ◌∙◌}
 use Rattle.std.proofs.lemmas.Bool.{lt-ltb, ltb-true}
 use Rattle.std.proofs.lemmas.Slice.Eq.{bytes_eq-Decides}
-use Rattle.std.specs.Prelude.{IfSome}
 use Rattle.std.specs.Option.{option_or}
 use Rattle.std.specs.Str.{bytes_eq}
 use Rattle.rv_asm.specs.Meant.{word_meant}
@@ -47,14 +46,13 @@ word_of-is line word is = by (word_meant line) is
     by None e = absurd (cc)
     by (Some w) e = spelled_by line word w (nat_lt w (2 ^ 32)) (bytes_eq line (insn_text w)) refl refl e
 
--- what assembling a line gives is its word
-pub word_of-assembled : (line : List ℕ) (found : Option ℕ) → IfSome found (λ word. word < 2 ^ 32) → IfSome found (λ word. line ≡ insn_text word) → ((word : ℕ) → word < 2 ^ 32 → line ≡ insn_text word → found ≡ Some word) → found ≡ word_of line
-word_of-assembled line (Some word) small is read = sym (word_of-insn_text line word small is)
-word_of-assembled line None small is read = by (word_of line) refl
+-- a line that is no spelling means no word
+pub no_word : (line : List ℕ) → ((w : ℕ) → w < 2 ^ 32 → line ≡ insn_text w → ⊥) → word_of line ≡ None
+no_word line other = by (word_of line) refl
   where
-    by : (o : Option ℕ) → word_of line ≡ o → None ≡ o
-    by None e = refl
-    by (Some word) e = let it = word_of-is line word e in read word it.fits it.spelling
+    by : (o : Option ℕ) → word_of line ≡ o → o ≡ None
+    by None is = refl
+    by (Some w) is = let it = word_of-is line w is in absurd (other w it.fits it.spelling)
 
 -- a jump or branch is the word that was assembled
 pub if_goes-is : (o : Option ℕ) (word : ℕ) → if_goes o ≡ Some word → (o ≡ Some word) × (goes (decoded word) ≡ true)

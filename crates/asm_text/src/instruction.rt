@@ -33,7 +33,10 @@ pub fn word_at(
 fn word_of(line: &[u8]) -> Option<u32>
     ensures { result ≡ word_of line.now }
 {
-    assemble_line(line)
+    match assemble_line(line) {
+        Some(word) => Some(word),
+        None => None,
+    }
 }
 
 /// The word of a jump or a branch to the name that is the line's last word.
