@@ -1,27 +1,16 @@
 -- What reading a source gives is what its grammar says.
-use Rattle.std.proofs.Common.{◌≡◌, ℕ, suc, ◌+◌, ◌<◌, ◌≤◌, ◌⊎◌, inl, inr, Bool, true, false, cond, nat_lt, List, [], ◌∷◌, ◌++◌, length, Option, Some, None, Result, Ok, Err, refl, sym, ap, subst, ◌∙◌, arith}
-use Rattle.std.proofs.lemmas.Bool.{cases_Bool, ltb-true, ltb-false, lt-ltb, le-ltb}
+use Rattle.std.proofs.Common.{◌≡◌, ℕ, suc, ◌+◌, inl, inr, true, List, [], ◌∷◌, ◌++◌, length, Option, Some, None, Result, Ok, Err, refl, sym, ap, subst, ◌∙◌, arith}
 use Rattle.std.specs.List.{cons_option}
-use Rattle.mach_base.specs.declared.event.What.{What}
-use Rattle.mach_base.specs.declared.event.What.TheVariants.{Segments, Memory, SourceBytes}
-use Rattle.mach_base.specs.declared.limits.TheConstants.{SOURCE_BYTES}
-use Rattle.mach_base.specs.Lines.{lines_of, words_of}
-use Rattle.mem_map.specs.Parts.{segments_of}
+use Rattle.mach_base.specs.Lines.{words_of}
 use Rattle.img_text.specs.declared.fault.Why.{Why}
 use Rattle.img_text.specs.declared.fault.Why.TheVariants.{NoText}
-use Rattle.img_text.specs.declared.fault.ImageFault.{ImageFault}
-use Rattle.img_text.specs.declared.fault.ImageFault.TheVariants as image_faults
-use Rattle.img_text.specs.Image.{ImageRecord}
 use Rattle.img_text.specs.Directives.{line_of}
-use Rattle.img_text.specs.Reading.{has_text, image_of, image_of_lines, is_header as is_image_header}
-use Rattle.img_text.specs.Grammar.{Entry, parts_in, refusal_after, AreAllowed, IsImageOf, Reads as ImageReads, nothing as no_more, skipped, one_more as entry_more, AreLines as AreImageLines, IsWrong as IsImageWrong, IsFirstBad as IsImageFirstBad, IsBad as IsImageBad, HasNoHeader as HasNoImageHeader, HaveManySegments as ImageHasManySegments, HaveMuchMemory as ImageHasMuchMemory}
-use Rattle.img_text.proofs.Grammar.{names_the_first_bad_line as image_names, is_what_the_lines_mean as image_means, counts_its_memory as image_counts}
-use Rattle.asm_text.specs.declared.fault.SourceFault.{SourceFault}
-use Rattle.asm_text.specs.declared.fault.SourceFault.TheVariants.{Bad, TooLarge, OutOfMemory}
+use Rattle.img_text.specs.Reading.{is_header as is_image_header}
+use Rattle.img_text.specs.Grammar.{Entry, Reads as ImageReads, nothing as no_more, skipped, one_more as entry_more, AreLines as AreImageLines, IsWrong as IsImageWrong, IsFirstBad as IsImageFirstBad, IsBad as IsImageBad}
 use Rattle.asm_text.specs.Kinds.{place_after}
 use Rattle.asm_text.specs.Labels.{Labels, labels_of}
-use Rattle.asm_text.specs.Reading.{as_source, is_header, image_header, image_line, image_lines, lines_for, lines_text, source_of, source_of_lines}
-use Rattle.asm_text.specs.Grammar.{IsLine, Reads, nothing, one_more, place_behind, AreLines, IsWrong, HasNoHeader, no_line, another, IsFirstBad, IsBad, NamesTheFirstBadLine, IsWhatTheLinesMean, HaveManySegments, HaveMuchMemory, CountsItsMemory}
+use Rattle.asm_text.specs.Reading.{is_header, image_header, image_line, image_lines, lines_for}
+use Rattle.asm_text.specs.Grammar.{Reads, nothing, one_more, place_behind, AreLines, IsWrong, HasNoHeader, another, IsFirstBad, IsBad}
 use Rattle.asm_text.proofs.Standing.{line_reads, line_from}
 
 -- ---- lines in order
@@ -153,19 +142,21 @@ first_bad_to_image first ls number b =
     let labels = labels_of (b.before ++ b.line ∷ b.after) in
     let size = length_image_lines labels 2 None b.before in
     let here : number ≡ 2 + length b.before = omega (arith, b.place) in
-    let wrong = wrong_to_image labels (2 + length b.before) (place_behind None b.before) b.entries b.line (subst (λ (n : ℕ). IsWrong labels n (place_behind None b.before) b.entries b.line) here b.wrong) in
-    (wrong.0, record {
-      header = image_header;
-      before = image_lines labels 2 None b.before;
-      line = image_line labels (2 + length b.before) (place_behind None b.before) b.line;
-      after = image_lines labels (2 + length b.before + 1) (place_after (place_behind None b.before) (words_of b.line)) b.after;
-      split = ap (λ (xs : List (List ℕ)). image_header ∷ lines_for xs) same.1 ∙ ap (λ (xs : List (List ℕ)). image_header ∷ xs) (split_image_lines labels 2 None b.before b.line b.after);
-      is_header = image_first;
-      place = omega (arith, b.place, size);
-      entries = b.entries;
-      right = record { reads = reads_image labels 2 None b.before b.entries b.reads; allowed = b.allowed };
-      wrong = wrong.1;
-    })
+    let wrong = wrong_to_image labels (2 + length b.before) (place_behind None b.before) b.entries b.line (subst (λ (n : ℕ). IsWrong labels n (place_behind None b.before) b.entries b.line) here b.wrong) in (
+      wrong.0,
+      record {
+        header = image_header;
+        before = image_lines labels 2 None b.before;
+        line = image_line labels (2 + length b.before) (place_behind None b.before) b.line;
+        after = image_lines labels (2 + length b.before + 1) (place_after (place_behind None b.before) (words_of b.line)) b.after;
+        split = ap (λ (xs : List (List ℕ)). image_header ∷ lines_for xs) same.1 ∙ ap (λ (xs : List (List ℕ)). image_header ∷ xs) (split_image_lines labels 2 None b.before b.line b.after);
+        is_header = image_first;
+        place = omega (arith, b.place, size);
+        entries = b.entries;
+        right = record { reads = reads_image labels 2 None b.before b.entries b.reads; allowed = b.allowed };
+        wrong = wrong.1;
+      },
+    )
 
 first_bad_from_image : (first : List ℕ) (ls : List (List ℕ)) (number : ℕ) (why : Why) → is_header (words_of first) ≡ true → IsImageFirstBad (whole_image_lines ls) number why → IsFirstBad (first ∷ ls) number
 first_bad_from_image first ls number why header b =

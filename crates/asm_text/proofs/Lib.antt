@@ -6,3 +6,4 @@ pub mod Written
 pub mod Standing
 pub mod Grammar
 pub mod Texts
+pub mod Running

@@ -1,29 +1,26 @@
 -- The line of the image format that stands for a line does what the grammar says.
-use Rattle.std.proofs.Common.{◌≡◌, ℕ, ◌^◌, ◌<◌, ◌≤◌, inl, inr, Bool, true, false, cond, eqb, List, [], ◌∷◌, ◌++◌, Option, Some, None, Result, Ok, Err, refl, sym, ap, subst, ◌∙◌, arith}
+use Rattle.std.proofs.Common.{◌≡◌, ℕ, ◌^◌, ◌<◌, ◌≤◌, Bool, true, false, cond, List, [], ◌∷◌, ◌++◌, Option, Some, None, Result, Ok, Err, refl, sym, ap, subst, ◌∙◌, arith}
 use Rattle.std.proofs.lemmas.Bool.{eqb-true, eq-eqb}
 use Rattle.std.specs.Prelude.{codes}
 use Rattle.std.specs.Option.{option_or}
 use Rattle.std.specs.Str.{bytes_eq}
 use Rattle.mach_base.specs.declared.memory_range.Kind.TheVariants as kinds
 use Rattle.mach_base.specs.Lines.{words_of}
-use Rattle.rv_decode.specs.Fields.{decoded}
-use Rattle.rv_asm.specs.Spelling.{insn_text}
 use Rattle.img_text.specs.declared.fault.Why.{Why}
 use Rattle.img_text.specs.declared.fault.Why.TheVariants.{Word}
-use Rattle.img_text.specs.declared.directive.Directive.{Directive}
 use Rattle.img_text.specs.declared.directive.Directive.TheVariants.{Begin, Put, Pc, Sp}
 use Rattle.img_text.specs.declared.directive.Width.TheVariants.{One, Four, Eight}
 use Rattle.img_text.specs.Directives.{is_comment, directive_of, with_numbers, line_of}
 use Rattle.img_text.specs.Grammar.{Entry}
-use Rattle.img_text.proofs.Spelled.{line_text, words_of-line, each_number-dec_text}
+use Rattle.img_text.proofs.Spelled.{words_of-line, each_number-dec_text}
 use Rattle.asm_text.specs.declared.labels.Given.{Given}
 use Rattle.asm_text.specs.declared.kind.LineKind.{LineKind}
 use Rattle.asm_text.specs.declared.kind.LineKind.TheVariants.{Skipped, Segment, Values, Start, Label, Instruction}
 use Rattle.asm_text.specs.Kinds.{directive_kind, kind_or, kind_of, label_of}
 use Rattle.asm_text.specs.Labels.{Labels, given, is_given_at}
-use Rattle.asm_text.specs.Instructions.{distance_text, goes, if_goes, last_split, trimmed, word_at, word_of, word_towards, word_with_name}
+use Rattle.asm_text.specs.Instructions.{distance_text, if_goes, last_split, trimmed, word_at, word_of, word_towards, word_with_name}
 use Rattle.asm_text.specs.Reading.{word_line, is_first, line_by, image_line}
-use Rattle.asm_text.specs.Grammar.{GoesTo, IsWord, spelled, towards, IsLine, of_image, label, instruction}
+use Rattle.asm_text.specs.Grammar.{IsWord, spelled, towards, IsLine, of_image, label, instruction}
 use Rattle.asm_text.proofs.Clear.{word_line-line_text}
 use Rattle.asm_text.proofs.Splits.{last_split-parts, last_split-is}
 use Rattle.asm_text.proofs.Words.{no_word, word_of-insn_text, word_of-is, if_goes-is, word_at-fits}

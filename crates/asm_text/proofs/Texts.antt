@@ -1,13 +1,12 @@
 -- The laws of sources.
-use Rattle.std.proofs.Common.{◌≡◌, ℕ, ◌+◌, ◌<◌, ◌≤◌, ◌⊎◌, inl, inr, Bool, true, false, cond, nat_lt, List, [], ◌∷◌, ◌++◌, length, reverse, Result, Ok, Err, refl, sym, ap, subst, ◌∙◌, arith}
+use Rattle.std.proofs.Common.{◌≡◌, ℕ, ◌+◌, ◌<◌, ◌≤◌, ◌⊎◌, inl, inr, Bool, true, false, cond, nat_lt, List, [], ◌∷◌, ◌++◌, length, reverse, Result, Ok, Err, refl, sym, ap, subst, ◌∙◌}
 use Rattle.std.proofs.lemmas.Bool.{cases_Bool, ltb-true, ltb-false, lt-ltb, le-ltb}
 use Rattle.std.specs.Prelude.{◌↔◌}
 use Rattle.mach_base.specs.declared.event.What.{What}
 use Rattle.mach_base.specs.declared.event.What.TheVariants.{Segments, Memory, SourceBytes}
-use Rattle.mach_base.specs.declared.memory_range.Segment.{Segment}
 use Rattle.mach_base.specs.declared.limits.TheConstants.{MOST_SEGMENTS, MOST_MEMORY, SOURCE_BYTES}
 use Rattle.mach_base.specs.Lines.{lines_of, words_of}
-use Rattle.mach_base.specs.Machine.{Part, memory_size}
+use Rattle.mach_base.specs.Machine.{memory_size}
 use Rattle.mach_base.specs.Sequence.{◌>>=◌}
 use Rattle.mem_map.specs.Parts.{segments_of}
 use Rattle.img_text.specs.declared.fault.Why.{Why}
@@ -15,13 +14,13 @@ use Rattle.img_text.specs.declared.fault.Why.TheVariants.{NoText}
 use Rattle.img_text.specs.declared.fault.ImageFault.{ImageFault}
 use Rattle.img_text.specs.declared.fault.ImageFault.TheVariants as image_faults
 use Rattle.img_text.specs.Image.{ImageRecord}
-use Rattle.img_text.specs.Reading.{Draft, at_line, read_line, read_lines, has_text, within_limits, whole_image, is_header as is_image_header, image_of_lines}
+use Rattle.img_text.specs.Reading.{Draft, at_line, read_line, read_lines, has_text, whole_image, image_of_lines}
 use Rattle.img_text.specs.Grammar.{Entry, AreLines as AreImageLines, IsBad as IsImageBad, IsImageOf, HaveManySegments as ImageHasManySegments, HaveMuchMemory as ImageHasMuchMemory}
 use Rattle.img_text.proofs.Grammar.{names_the_first_bad_line as image_names, is_what_the_lines_mean as image_means, counts_its_memory as image_counts}
 use Rattle.asm_text.specs.declared.fault.SourceFault.{SourceFault}
-use Rattle.asm_text.specs.declared.fault.SourceFault.TheVariants.{Bad, TooLarge, OutOfMemory}
-use Rattle.asm_text.specs.Reading.{as_source, is_header, image_header, lines_for, lines_text, source_of, source_of_lines}
-use Rattle.asm_text.specs.Grammar.{AreLines, HasNoHeader, no_line, another, IsFirstBad, IsBad, NamesTheFirstBadLine, IsWhatTheLinesMean, HaveManySegments, HaveMuchMemory, CountsItsMemory}
+use Rattle.asm_text.specs.declared.fault.SourceFault.TheVariants.{Bad, TooLarge}
+use Rattle.asm_text.specs.Reading.{as_source, is_header, lines_for, lines_text, source_of, source_of_lines}
+use Rattle.asm_text.specs.Grammar.{AreLines, HasNoHeader, no_line, another, IsBad, NamesTheFirstBadLine, IsWhatTheLinesMean, HaveManySegments, HaveMuchMemory, CountsItsMemory}
 use Rattle.asm_text.proofs.Clear.{AreClear, lines_of-clear, lines_of-source}
 use Rattle.asm_text.proofs.Grammar.{whole_image_lines, bad_to_image, bad_from_image, lines_to_image, lines_from_image}
 

@@ -5,7 +5,7 @@ use Rattle.std.specs.List.{AllByRecursion, cons_option}
 use Rattle.mach_base.specs.declared.event.What.TheVariants.{Segments, Memory, SourceBytes}
 use Rattle.mach_base.specs.declared.limits.TheConstants.{MOST_SEGMENTS, MOST_MEMORY, SOURCE_BYTES}
 use Rattle.mach_base.specs.Lines.{lines_of, words_of}
-use Rattle.mach_base.specs.Machine.{memory_size}
+use Rattle.mach_base.specs.Machine.{Part, memory_size}
 use Rattle.mem_map.specs.Parts.{segments_of}
 use Rattle.rv_decode.specs.Fields.{decoded}
 use Rattle.rv_asm.specs.Spelling.{insn_text}
@@ -15,7 +15,7 @@ use Rattle.img_text.specs.declared.directive.Directive.TheVariants.{Put}
 use Rattle.img_text.specs.Directives.{line_of}
 use Rattle.img_text.specs.Reading.{has_text}
 use Rattle.img_text.specs.Image.{ImageRecord}
-use Rattle.img_text.specs.Grammar.{Entry, parts_in, refusal_after, AreAllowed, IsImageOf}
+use Rattle.img_text.specs.Grammar.{Entry, last_part, parts_in, refusal_after, AreAllowed, IsImageOf}
 use Rattle.asm_text.specs.declared.fault.SourceFault.TheVariants.{Bad, TooLarge}
 use Rattle.asm_text.specs.declared.labels.Given.{Given}
 use Rattle.asm_text.specs.declared.kind.LineKind.TheVariants.{Label, Instruction}
@@ -147,3 +147,13 @@ CountsItsMemory =
     ((source_of text ≡ Err (TooLarge SourceBytes size)) ↔ ((size ≡ length text) × (SOURCE_BYTES < length text))) ×
     ((source_of text ≡ Err (TooLarge Segments size)) ↔ ((length text ≤ SOURCE_BYTES) × HaveManySegments (lines_of text) size)) ×
     ((source_of text ≡ Err (TooLarge Memory size)) ↔ ((length text ≤ SOURCE_BYTES) × HaveMuchMemory (lines_of text) size))
+
+-- the address behind the bytes of a part
+abbrev pub running_place : Option Part → Option ℕ
+running_place None = None
+running_place (Some p) = Some (p.segment.base + length p.bytes)
+
+-- behind lines that are right the place is where the next byte of the last segment stands
+abbrev pub PlacesAreRunning : Type 0
+PlacesAreRunning =
+    (labels : Labels) (ls : List (List ℕ)) (es : List Entry) → Reads labels 2 None ls es → AreAllowed [] es → place_behind None ls ≡ running_place (last_part (parts_in es))

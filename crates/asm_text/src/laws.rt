@@ -1,5 +1,5 @@
 //! Laws of sources, each as the contract of a call that does nothing: whoever needs one calls it.
-ghost use Rattle.asm_text.specs.Grammar.{CountsItsMemory, IsWhatTheLinesMean, NamesTheFirstBadLine};
+ghost use Rattle.asm_text.specs.Grammar.{CountsItsMemory, IsWhatTheLinesMean, NamesTheFirstBadLine, PlacesAreRunning};
 
 /// A text is bad at a line exactly where it isn't too long, the lines before that line are right, and that line isn't: by
 /// itself, or after those before it; line 1 where it isn't that of a source, and one past the last where no segment holds text.
@@ -17,4 +17,10 @@ pub fn a_source_is_what_its_lines_give()
 /// segments, or else too much memory; the size is that number.
 pub fn a_source_counts_its_memory()
     ensures { CountsItsMemory }
+{}
+
+/// Behind lines that are right the place is the base of the last segment and as many bytes as were put into it, and there is
+/// none before any segment: so a label means the address at which the next byte is put.
+pub fn a_place_is_where_the_next_byte_stands()
+    ensures { PlacesAreRunning }
 {}

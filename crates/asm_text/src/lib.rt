@@ -22,5 +22,8 @@ mod reading;
 mod tests;
 
 pub use fault::SourceFault;
-pub use laws::{a_source_counts_its_memory, a_source_is_what_its_lines_give, a_source_names_its_first_bad_line};
+pub use laws::{
+    a_place_is_where_the_next_byte_stands, a_source_counts_its_memory,
+    a_source_is_what_its_lines_give, a_source_names_its_first_bad_line,
+};
 pub use reading::read_source;

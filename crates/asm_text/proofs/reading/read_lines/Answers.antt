@@ -1,4 +1,4 @@
-use Rattle.std.proofs.Common.{sym, ap, ◌∙◌}
+use Rattle.std.proofs.Common.{sym, ◌∙◌}
 use Rattle.mach_base.specs.Lines.{lines_of}
 use Rattle.asm_text.proofs.Written.{source_ok, source_refused}
 use Rattle.asm_text.proofs.reading.read_lines.Goals as goal
