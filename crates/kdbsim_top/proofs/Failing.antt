@@ -32,10 +32,6 @@ fails_first files kind name inputs before between after status le h = inl (Fails
 pub fails_after : (files : Option FileMap) (kind : Kind) (name : List ℕ) (inputs : List Input) (before after : ℕ) (status : Status) (value : Value kind) → HasFile files kind name value → FailsAt files inputs before after status → FailsAt files (record { kind = kind; name = name } ∷ inputs) before after status
 fails_after files kind name inputs before after status value read h = inr (value, read, h)
 
--- memory may run out at any file
-pub no_memory : (files : Option FileMap) (input : Input) (inputs : List Input) (before after : ℕ) → FailsAt files (input ∷ inputs) before after OutOfMemory
-no_memory files input inputs before after = inl (inr (inr refl))
-
 -- the script fails, after the image and the map were read
 pub third_fails : (f0 f1 f2 : Option FileMap) (image map script : Text) (value : ImageRecord) (symbols : List Symbol) (n0 n1 n2 n3 : ℕ) (status : Status) → f1 ≡ f0 → f2 ≡ f1 → n0 ≤ n1 → n1 ≤ n2
     → HasFile f0 image_file image value → HasFile f1 map_file map symbols → FailsAtFile f2 script_file script n2 n3 status → FailsAt f0 (start_inputs image map script []) n0 n3 status

@@ -1,15 +1,14 @@
 -- The cause of an answer, by what the stages before it did.
-use Rattle.std.proofs.Common.{◌≡◌, ℕ, ◌≤◌, ◌⊎◌, inl, inr, List, Option, Some, None, refl, sym, ap, ◌∙◌, subst}
+use Rattle.std.proofs.Common.{◌≡◌, ℕ, ◌≤◌, ◌⊎◌, inl, inr, false, List, Option, Some, None, refl, sym, ap, ◌∙◌, subst}
 use Rattle.io_edge.specs.Edge.{FileMap}
 use Rattle.program_words.specs.Words.{Text}
 use Rattle.program_words.specs.Commands.{Command, uni, replay, run, lockstep}
 use Rattle.kdbsim_files.specs.declared.status.Status.{Status}
 use Rattle.kdbsim_files.specs.declared.status.Status.TheVariants.{Usage, OutOfMemory}
 use Rattle.kdbsim_files.specs.Files.{FailsAt}
-use Rattle.kdbsim_top.specs.Runs.{Outcome, IsOutcome, inputs_of}
+use Rattle.kdbsim_top.specs.Runs.{Outcome, IsOutcome, inputs_of, is_run}
 use Rattle.kdbsim_top.specs.Stages.{FailsReplay}
-use Rattle.kdbsim_top.specs.Causes.{Outside, IsQuiet, IsPublished, Explains, IsAnswer}
-use Rattle.kdbsim_top.proofs.Failing.{no_memory}
+use Rattle.kdbsim_top.specs.Causes.{Outside, IsQuiet, IsPublished, Explains, IsAnswer, IsAnswerAlone}
 
 abbrev pub outside : Option FileMap → Option FileMap → ℕ → ℕ → Option (List ℕ) → Option (List ℕ) → ℕ → ℕ → Outside
 outside f0 f1 n0 n1 t0 t1 k0 k1 = record {
@@ -40,10 +39,10 @@ replay_failed image map script journal f0 f1 n0 n1 t k status same (inl h) = fai
 replay_failed image map script journal f0 f1 n0 n1 t k status same (inr h) = inr (inl (h.0, h.1, h.2, record { files = same; taken = refl }))
 
 lacks_memory : (files : Option FileMap) (command : Command) (before after : ℕ) → FailsAt files (inputs_of command) before after OutOfMemory
-lacks_memory files (uni image script) before after = no_memory files _ _ before after
-lacks_memory files (replay image map script journal) before after = no_memory files _ _ before after
-lacks_memory files (run image map script journal options) before after = no_memory files _ _ before after
-lacks_memory files (lockstep image map script plan journal options) before after = no_memory files _ _ before after
+lacks_memory files (uni image script) before after = inl (inr (inr refl))
+lacks_memory files (replay image map script journal) before after = inl (inr (inr refl))
+lacks_memory files (run image map script journal options) before after = inl (inr (inr refl))
+lacks_memory files (lockstep image map script plan journal options) before after = inl (inr (inr refl))
 
 -- memory may run out before anything is read
 pub memory_answer : (o : Outside) (command : Option Command) → IsQuiet o → IsAnswer o command OutOfMemory
@@ -52,3 +51,14 @@ memory_answer o (Some command) quiet = inr (inr (lacks_memory o.files_before com
 
 pub usage_answer : (o : Outside) (command : Option Command) → command ≡ None → IsQuiet o → IsAnswer o command Usage
 usage_answer o command is quiet = subst (λ c. IsAnswer o c Usage) (sym is) (inl refl, quiet)
+
+-- the same of a call that makes no threads
+pub memory_alone : (o : Outside) (command : Option Command) → IsQuiet o → IsAnswerAlone o command OutOfMemory
+memory_alone o None quiet = (inr refl, quiet)
+memory_alone o (Some command) quiet = (inr refl, inr (inr (lacks_memory o.files_before command o.shelf_before o.shelf_after, quiet)))
+
+pub answered : (o : Outside) (words : Option Command) (command : Command) (status : Status) → words ≡ Some command → Explains o command status → IsAnswer o words status
+answered o words command status is cause = subst (λ c. IsAnswer o c status) (sym is) cause
+
+pub answered_alone : (o : Outside) (words : Option Command) (command : Command) (status : Status) → words ≡ Some command → is_run command ≡ false → Explains o command status → IsAnswerAlone o words status
+answered_alone o words command status is alone cause = subst (λ c. IsAnswerAlone o c status) (sym is) (inl alone, cause)

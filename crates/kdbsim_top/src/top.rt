@@ -66,8 +66,8 @@ pub fn kdbsim<R: Threads + Wait + Sync, F: Shelf, O: Sink, P: Pause + Copy + Sen
     }
 }
 
-/// The same of every command but `run`, without a wait: the call returns. None comes exactly where the words ask for `run`,
-/// and then nothing was read and nothing written.
+/// The same of every command but `run`, without a wait: the call returns. None comes only where the words ask for `run`, and
+/// nothing was read and nothing written then; where they do, it comes unless memory runs out.
 pub fn alone<F: Shelf, O: Sink>(
     alloc: Global,
     words: &[String],
@@ -122,7 +122,7 @@ fn answer<F: Shelf, O: Sink>(
       taken_after = O.taken out.new;
       sink_before = O.faults out.old;
       sink_after = O.faults out.new;
-    }) (command_view command) result }
+    }) (command_view command.entry) result }
 {
     match command {
         Command::Uni { image, script } => answer_uni(alloc, shelf, out, image, script),

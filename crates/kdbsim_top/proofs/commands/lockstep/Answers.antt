@@ -10,7 +10,7 @@ returns-in_err-start-clause-cause g c =
     let p = err_from_is_err_and c.from_residual.result c.from_residual.ensures.1 in
     let names = c.args.names in
     rw (p.1, p.2) (start_fails (g.F.Shelf.contents c.args.shelf.now) names.image.now names.map.now names.script.now (record { kind = plan_file c.args.options.harts; name = c.args.plan.now } ∷ [])
-        (g.F.Shelf.faults c.args.shelf.now) (g.F.Shelf.faults c.read_start.new.shelf) c.in_err-start.field-0.0 c.in_err-start.ensures.start)
+    (g.F.Shelf.faults c.args.shelf.now) (g.F.Shelf.faults c.read_start.new.shelf) c.in_err-start.field-0.0 c.in_err-start.ensures.start)
 
 pub returns-in_err-plan-clause-cause : goal.returns-in_err-plan-clause-cause
 returns-in_err-plan-clause-cause g c =
@@ -18,7 +18,7 @@ returns-in_err-plan-clause-cause g c =
     let names = c.args.names in
     let s = c.in_ok-start.start in
     rw (p.1, p.2) (fourth_fails (g.F.Shelf.contents c.args.shelf.now) (g.F.Shelf.contents c.read_start.new.shelf) names.image.now names.map.now names.script.now s.image s.names s.script (plan_file c.args.options.harts) c.args.plan.now
-        (g.F.Shelf.faults c.args.shelf.now) (g.F.Shelf.faults c.read_start.new.shelf) (g.F.Shelf.faults c.plan_input.new.shelf) c.in_err-plan.field-0.0 c.in_ok-start.ensures.kept c.in_ok-start.ensures.count c.in_ok-start.ensures.start c.in_err-plan.ensures.plan)
+    (g.F.Shelf.faults c.args.shelf.now) (g.F.Shelf.faults c.read_start.new.shelf) (g.F.Shelf.faults c.plan_input.new.shelf) c.in_err-plan.field-0.0 c.in_ok-start.ensures.kept c.in_ok-start.ensures.count c.in_ok-start.ensures.start c.in_err-plan.ensures.plan)
 
 pub returns-in-Ok-clause-cause : goal.returns-in-Ok-clause-cause
 returns-in-Ok-clause-cause g c = λ journal.

@@ -14,7 +14,7 @@ returns g c =
     let s = c.args.start in
     let o : Origin = origin_of s c.args.options in
     let from = comes_by s.image s.names s.script c.pace_of-pace.result.harts c.args.options.harts c.pace_of-pace.result.limit c.args.options.steps bus.core
-        c.pace_of-pace.ensures.harts c.pace_of-pace.ensures.limit c.in_ok-bus.ensures.origin in
+    c.pace_of-pace.ensures.harts c.pace_of-pace.ensures.limit c.in_ok-bus.ensures.origin in
     let told = c.in_ok-told.told in
     let recorded = subst (λ (core : Core). IsRecord o (entries_of core) told.ending told.transcript.items) c.core.ensures (c.in_ok-told.ensures o (subst (ComesFrom o) (sym c.core.ensures) from)) in
     record {

@@ -18,7 +18,7 @@ returns c =
     let o : Origin = origin_of s c.args.options in
     let plan = hart_numbers (ticks_of c.args.plan.now) in
     let ticked = ticked_by s.image s.names s.script c.pace_of.result.harts c.args.options.harts c.pace_of.result.limit c.args.options.steps c.pace_of.result.rounds c.args.options.rounds plan bus
-        c.pace_of.ensures.harts c.pace_of.ensures.limit c.pace_of.ensures.rounds c.in_ok-bus.ensures in
+    c.pace_of.ensures.harts c.pace_of.ensures.limit c.pace_of.ensures.rounds c.in_ok-bus.ensures in
     let told = c.in_ok-told.told in
     record {
       bus = bus;

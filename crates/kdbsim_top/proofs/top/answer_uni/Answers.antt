@@ -5,11 +5,15 @@ use Rattle.kdbsim_top.proofs.top.answer_uni.Goals as goal
 
 pub returns-in-Ok : goal.returns-in-Ok
 returns-in-Ok g c =
-    printed (uni c.args.image.now c.args.script.now) (g.F.Shelf.contents c.args.shelf.now) (g.F.Shelf.contents c.uni.new.shelf) (g.F.Shelf.faults c.args.shelf.now) (g.F.Shelf.faults c.uni.new.shelf)
-    (g.O.Sink.taken c.args.out.now) (g.O.Sink.taken c.print.new.out) (g.O.Sink.faults c.args.out.now) (g.O.Sink.faults c.print.new.out) (outcome c.in-Ok.told.ending c.in-Ok.told.transcript.items) c.print.result
-    c.in-Ok.ensures.kept c.in-Ok.ensures.cause c.print.ensures
+    record {
+      cause = printed (uni c.args.image.now c.args.script.now) (g.F.Shelf.contents c.args.shelf.now) (g.F.Shelf.contents c.uni.new.shelf) (g.F.Shelf.faults c.args.shelf.now) (g.F.Shelf.faults c.uni.new.shelf)
+          (g.O.Sink.taken c.args.out.now) (g.O.Sink.taken c.print.new.out) (g.O.Sink.faults c.args.out.now) (g.O.Sink.faults c.print.new.out) (outcome c.in-Ok.told.ending c.in-Ok.told.transcript.items) c.print.result
+          c.in-Ok.ensures.kept c.in-Ok.ensures.cause c.print.ensures;
+    }
 
 pub returns-in-Err : goal.returns-in-Err
 returns-in-Err g c =
-    failed (uni c.args.image.now c.args.script.now) (g.F.Shelf.contents c.args.shelf.now) (g.F.Shelf.contents c.uni.new.shelf) (g.F.Shelf.faults c.args.shelf.now) (g.F.Shelf.faults c.uni.new.shelf)
-    (g.O.Sink.taken c.args.out.now) (g.O.Sink.faults c.args.out.now) c.in-Err.status c.in-Err.ensures.kept c.in-Err.ensures.cause
+    record {
+      cause = failed (uni c.args.image.now c.args.script.now) (g.F.Shelf.contents c.args.shelf.now) (g.F.Shelf.contents c.uni.new.shelf) (g.F.Shelf.faults c.args.shelf.now) (g.F.Shelf.faults c.uni.new.shelf)
+          (g.O.Sink.taken c.args.out.now) (g.O.Sink.faults c.args.out.now) c.in-Err.status c.in-Err.ensures.kept c.in-Err.ensures.cause;
+    }
