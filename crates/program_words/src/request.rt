@@ -48,9 +48,7 @@ pub enum Command<'a> {
 pub enum Request<'a> {
     Built(Command<'a>),
     /// `load NUMBER`, from 0 to 4,294,967,295.
-    Load {
-        number: u64,
-    },
+    Load { number: u64 },
 }
 
 /// Why the words give nothing.

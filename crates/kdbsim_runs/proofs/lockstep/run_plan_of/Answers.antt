@@ -28,7 +28,7 @@ returns c =
     let after = c.make_ticks.new.deck in
     let whole2 : Option Configuration = Some (configuration_of after.limit after.seats (told after.bus)) in
     let ran = ticked (hart_numbers (ticks_of c.args.plan.now)) (hart_numbers (left_in c.ticks.result)) c.args.pace.rounds whole whole2 c.in_ok-bus.bus deck.bus after.bus c.into_bus-bus.result c.make_ticks.ensures.runs c.in_ok-deck.ensures.whole c.in_ok-deck.ensures.bus
-        (sym c.into_bus-bus.ensures.value) (ap hart_numbers c.ticks.ensures) in
+    (sym c.into_bus-bus.ensures.value) (ap hart_numbers c.ticks.ensures) in
     record {
       first = c.in_ok-bus.bus;
       begins = record { machine = c.in_ok-bus.ensures.machine; journal = c.in_ok-bus.ensures.journal; opening = c.in_ok-bus.ensures.opening };

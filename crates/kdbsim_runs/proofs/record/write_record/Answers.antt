@@ -9,7 +9,8 @@ use Rattle.kdbsim_runs.proofs.JournalEntries.{header, all_in_journal}
 use Rattle.kdbsim_runs.proofs.record.write_record.Goals as goal
 
 pub write_journal-requires : goal.write_journal-requires
-write_journal-requires c =
-    (header c.args.harts c.args.limit c.requires.some_harts c.requires.few_harts c.requires.low c.requires.high,
-    subst (AllByRecursion (IsEntry c.args.harts)) (sym c.journal.ensures)
-    (all_in_journal c.entries_keep.ensures c.entries_keep_order.ensures c.starts_are_orderly.ensures c.args.harts c.args.core.now c.requires.origin))
+write_journal-requires c = (
+  header c.args.harts c.args.limit c.requires.some_harts c.requires.few_harts c.requires.low c.requires.high,
+  subst (AllByRecursion (IsEntry c.args.harts)) (sym c.journal.ensures)
+      (all_in_journal c.entries_keep.ensures c.entries_keep_order.ensures c.starts_are_orderly.ensures c.args.harts c.args.core.now c.requires.origin),
+)

@@ -8,7 +8,7 @@ pub returns-in-Replay : goal.returns-in-Replay
 returns-in-Replay g c = record {
   cause = subst
       (λ command. Explains (outside (g.F.Shelf.contents c.args.shelf.now) (g.F.Shelf.contents c.answer_replay.new.shelf) (g.F.Shelf.faults c.args.shelf.now) (g.F.Shelf.faults c.answer_replay.new.shelf)
-        (g.O.Sink.taken c.args.out.now) (g.O.Sink.taken c.answer_replay.new.out) (g.O.Sink.faults c.args.out.now) (g.O.Sink.faults c.answer_replay.new.out)) command c.answer_replay.result)
+      (g.O.Sink.taken c.args.out.now) (g.O.Sink.taken c.answer_replay.new.out) (g.O.Sink.faults c.args.out.now) (g.O.Sink.faults c.answer_replay.new.out)) command c.answer_replay.result)
       (sym (ap command_view c.in-Replay.is)) c.answer_replay.ensures.cause;
 }
 
@@ -16,6 +16,6 @@ pub returns-in-Lockstep : goal.returns-in-Lockstep
 returns-in-Lockstep g c = record {
   cause = subst
       (λ command. Explains (outside (g.F.Shelf.contents c.args.shelf.now) (g.F.Shelf.contents c.answer_lockstep.new.shelf) (g.F.Shelf.faults c.args.shelf.now) (g.F.Shelf.faults c.answer_lockstep.new.shelf)
-        (g.O.Sink.taken c.args.out.now) (g.O.Sink.taken c.answer_lockstep.new.out) (g.O.Sink.faults c.args.out.now) (g.O.Sink.faults c.answer_lockstep.new.out)) command c.answer_lockstep.result)
+      (g.O.Sink.taken c.args.out.now) (g.O.Sink.taken c.answer_lockstep.new.out) (g.O.Sink.faults c.args.out.now) (g.O.Sink.faults c.answer_lockstep.new.out)) command c.answer_lockstep.result)
       (sym (ap command_view c.in-Lockstep.is)) c.answer_lockstep.ensures.cause;
 }

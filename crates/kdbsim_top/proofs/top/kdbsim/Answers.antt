@@ -9,7 +9,7 @@ pub returns-in-Ok-Run-clause-cause : goal.returns-in-Ok-Run-clause-cause
 returns-in-Ok-Run-clause-cause g c =
     answered
     (outside (g.F.Shelf.contents c.args.shelf.now) (g.F.Shelf.contents c.answer_run.new.shelf) (g.F.Shelf.faults c.args.shelf.now) (g.F.Shelf.faults c.answer_run.new.shelf)
-      (g.O.Sink.taken c.args.out.now) (g.O.Sink.taken c.answer_run.new.out) (g.O.Sink.faults c.args.out.now) (g.O.Sink.faults c.answer_run.new.out))
+    (g.O.Sink.taken c.args.out.now) (g.O.Sink.taken c.answer_run.new.out) (g.O.Sink.faults c.args.out.now) (g.O.Sink.faults c.answer_run.new.out))
     (command_of (map string_bytes c.args.words.now)) (run c.in-Ok-Run.image.now c.in-Ok-Run.map.now c.in-Ok-Run.script.now c.in-Ok-Run.journal.now c.in-Ok-Run.options) c.answer_run.result
     (c.in-Ok-Run.ensures.ok ∙ ap (λ r. Some (command_view r)) c.in-Ok-Run.field-0-is) c.answer_run.ensures.cause
 
