@@ -1,11 +1,12 @@
 # Completion for bash: . tools/kdbsim.bash
-# The command first, then its files in their order; the options of lockstep where the word begins with a dash.
+# The command first, then its files in their order; the options of run and lockstep where the word begins with a dash.
 _kdbsim() {
     local word=${COMP_WORDS[COMP_CWORD]} kinds=() kind
     case $COMP_CWORD,${COMP_WORDS[1]-},$word in
-    1,*) mapfile -t COMPREPLY < <(compgen -W 'uni lockstep replay' -- "$word"); return 0 ;;
-    *,lockstep,-*) mapfile -t COMPREPLY < <(compgen -W '--harts= --steps= --rounds=' -- "$word"); compopt -o nospace; return 0 ;;
+    1,*) mapfile -t COMPREPLY < <(compgen -W 'uni run lockstep replay' -- "$word"); return 0 ;;
+    *,run,-* | *,lockstep,-*) mapfile -t COMPREPLY < <(compgen -W '--harts= --steps= --rounds=' -- "$word"); compopt -o nospace; return 0 ;;
     *,uni,*) kinds=(img kdb) ;;
+    *,run,*) kinds=(img map kdb jrn) ;;
     *,lockstep,*) kinds=(img map kdb plan jrn) ;;
     *,replay,*) kinds=(img map kdb jrn) ;;
     esac
