@@ -39,17 +39,20 @@ fn words(alloc: Global, line: &str) -> Result<Vec<String>, AllocError> {
     Ok(words)
 }
 
-/// The answer to these words without threads, where this call of the shelf fails, and whether a journal was written.
+/// The answer to these words without threads, where these calls of the shelf and of the sink fail; whether a journal was
+/// written, and whether a text was printed.
 fn answer_alone(
     alloc: Global,
     line: &str,
-    failing: u64,
-) -> Result<(Option<Status>, bool), AllocError> {
-    let mut shelf = shelf_of(alloc, failing)?;
-    let mut sink = MemSink::new(alloc, Vec::new(alloc), 0);
+    shelf_fails: u64,
+    sink_fails: u64,
+) -> Result<(Option<Status>, bool, bool), AllocError> {
+    let mut shelf = shelf_of(alloc, shelf_fails)?;
+    let mut sink = MemSink::new(alloc, [sink_fails].to_vec(alloc)?, 0);
     let words = words(alloc, line)?;
     let status = alone(alloc, words.as_slice(), &mut shelf, &mut sink);
-    Ok((status, shelf.bytes("out").is_some()))
+    let written = shelf.bytes("out").is_some();
+    Ok((status, written, !sink.bytes().is_empty()))
 }
 
 const LOCKSTEP: &str = "lockstep i m s p out --steps 5";
@@ -72,11 +75,13 @@ fn run_writes_its_journal(rt: HostRuntime) -> Result<(), Fail> {
 fn answers_without_threads(rt: HostRuntime) -> Result<(), Fail> {
     let alloc = rt.alloc();
     let done = Some(Status::Done(Ending::StepLimit));
-    assert!(rt; answer_alone(alloc, LOCKSTEP, 9)? == (done, true));
-    assert!(rt; answer_alone(alloc, LOCKSTEP, 4)? == (Some(Status::WriteFault), false));
+    assert!(rt; answer_alone(alloc, LOCKSTEP, 9, 9)? == (done, true, true));
+    let lost = Some(Status::WriteFault);
+    assert!(rt; answer_alone(alloc, LOCKSTEP, 4, 9)? == (lost, false, false));
+    assert!(rt; answer_alone(alloc, LOCKSTEP, 9, 0)? == (lost, true, false));
     let map = Some(Status::ReadFault(File::Map));
-    assert!(rt; answer_alone(alloc, LOCKSTEP, 1)? == (map, false));
-    assert!(rt; answer_alone(alloc, "run i m s out", 9)? == (None, false));
-    assert!(rt; answer_alone(alloc, "uni i", 9)? == (Some(Status::Usage), false));
+    assert!(rt; answer_alone(alloc, LOCKSTEP, 1, 9)? == (map, false, false));
+    assert!(rt; answer_alone(alloc, "run i m s out", 9, 9)? == (None, false, false));
+    assert!(rt; answer_alone(alloc, "uni i", 9, 9)? == (Some(Status::Usage), false, false));
     Ok(())
 }
