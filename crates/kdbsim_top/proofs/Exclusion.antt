@@ -130,7 +130,7 @@ file_refusal files input before after s is (inr (inl h)) =
       | inr memory ↦ absurd (subst IsOfFiles memory is)
     ]
 
-refusal_in : (files : Option FileMap) (inputs : List Input) (before after : ℕ) (s : Status) → IsOfFiles s → FailsAt files inputs before after s → IsRefusal s
+pub refusal_in : (files : Option FileMap) (inputs : List Input) (before after : ℕ) (s : Status) → IsOfFiles s → FailsAt files inputs before after s → IsRefusal s
 refusal_in files [] before after s is h = absurd h
 refusal_in files (input ∷ inputs) before after s is (inl h) = file_refusal files input before after s is h
 refusal_in files (input ∷ inputs) before after s is (inr h) = refusal_in files inputs before after s is h.2

@@ -1,12 +1,16 @@
 -- What the causes of the top call exclude, and what they leave.
 use Rattle.std.specs.Prelude.{◌≡◌, ℕ, List, [], ◌∷◌, Option, Some}
 use Rattle.io_edge.specs.Edge.{FileMap, HasRisen}
-use Rattle.program_words.specs.Commands.{Command}
+use Rattle.mach_base.specs.declared.event.Entry.{Entry}
+use Rattle.plant_mach.specs.Entries.{Made, made_by}
+use Rattle.bus_core.specs.Origin.{Origin, start_of}
+use Rattle.program_words.specs.Words.{Text}
+use Rattle.program_words.specs.Commands.{Command, replay}
 use Rattle.kdbsim_files.specs.Files.{Input, Value, HasFile}
 use Rattle.kdbsim_files.specs.Laws.{IsRefusal}
 use Rattle.kdbsim_files.specs.declared.status.Status.{Status}
 use Rattle.kdbsim_files.specs.declared.status.Status.TheVariants.{Done, BadStep, OutOfMemory}
-use Rattle.kdbsim_top.specs.Runs.{inputs_of}
+use Rattle.kdbsim_top.specs.Runs.{IsJournaled, inputs_of}
 use Rattle.kdbsim_top.specs.Causes.{Outside, Explains}
 
 -- the answers that the files alone give
@@ -39,3 +43,9 @@ abbrev pub RightFilesEnd : Type 0
 RightFilesEnd =
     (o : Outside) (command : Command) (files : FileMap) (status : Status) → o.files_before ≡ Some files → AreRight (Some files) (inputs_of command)
     → ¬ (HasRisen o.shelf_before o.shelf_after) → ¬ (HasRisen o.sink_before o.sink_after) → Explains o command status → IsEnd status
+
+-- Where the shelf tells its files: a legal journal is not answered by a bad step; and a journal has one bad step at most.
+pub record JournalsEndInOneWay : Type 0 where
+  pub legal : (o : Outside) (image map script journal : Text) (files : FileMap) (start : Origin) (entries : List Entry) (last : Made) (index : ℕ) → o.files_before ≡ Some files
+      → IsJournaled (Some files) image map script journal start entries → made_by (start_of start) entries ≡ Some last → ¬ (Explains o (replay image map script journal) (BadStep index))
+  pub first : (o : Outside) (command : Command) (files : FileMap) (index other : ℕ) → o.files_before ≡ Some files → Explains o command (BadStep index) → Explains o command (BadStep other) → index ≡ other

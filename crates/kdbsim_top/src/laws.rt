@@ -1,4 +1,4 @@
-ghost use Rattle.kdbsim_top.specs.Laws.{RefusalsExclude, RightFilesEnd};
+ghost use Rattle.kdbsim_top.specs.Laws.{JournalsEndInOneWay, RefusalsExclude, RightFilesEnd};
 
 use kdbsim_files::{files_mean_one_thing, refusals_are_one};
 
@@ -15,6 +15,15 @@ pub fn refusals_exclude_other_answers()
 /// legal, or runs out of memory.
 pub fn right_files_end_the_run()
     ensures { RightFilesEnd }
+{
+    files_mean_one_thing();
+}
+
+/// A law of the causes: where the shelf tells its files, a legal journal is not answered by a bad step, and a journal has one
+/// bad step at most. So where the files are right and no count rises, `replay` of a legal journal ends its run or runs out of
+/// memory.
+pub fn journals_end_in_one_way()
+    ensures { JournalsEndInOneWay }
 {
     files_mean_one_thing();
 }

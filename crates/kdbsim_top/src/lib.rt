@@ -19,5 +19,5 @@ mod top;
 mod uni;
 
 pub use kdbsim_files::{File, Status, status_code, status_line};
-pub use laws::{refusals_exclude_other_answers, right_files_end_the_run};
+pub use laws::{journals_end_in_one_way, refusals_exclude_other_answers, right_files_end_the_run};
 pub use top::{alone, kdbsim};
