@@ -15,6 +15,8 @@ mod laws;
 mod publish;
 #[cfg(test)]
 mod tests;
+#[cfg(test)]
+mod tests_of_threads;
 mod top;
 mod uni;
 
