@@ -15,6 +15,8 @@ mod record;
 mod replays;
 #[cfg(test)]
 mod tests;
+#[cfg(test)]
+mod tests_on_a_board;
 mod threads;
 
 pub use lockstep::{Pace, run_plan_of};
