@@ -142,7 +142,7 @@ impl Pause for Meet<'_> {
 #[test]
 fn workers_pause_beside_each_other(rt: HostRuntime) -> Result<(), Fail> {
     let alloc = rt.alloc();
-    let mut met = 0u32;
+    let mut have_met = false;
     for _ in 0..20 {
         let meeting = Meeting::new();
         let shelf = shelf_of(alloc, NOPS, "go\n", 9)?;
@@ -150,10 +150,10 @@ fn workers_pause_beside_each_other(rt: HostRuntime) -> Result<(), Fail> {
         let (status, _) = run_two(&rt, alloc, shelf, pause)?;
         assert_eq!(rt; status, Status::Done(Ending::AllHalted));
         if meeting.outcome.load(Ordering::SeqCst) == MET {
-            met += 1;
+            have_met = true;
         }
     }
-    assert!(rt; met > 0);
+    assert!(rt; have_met);
     Ok(())
 }
 
@@ -208,7 +208,7 @@ fn nobody_is_late_where_pauses_sleep(rt: HostRuntime) -> Result<(), Fail> {
 #[test]
 fn a_worker_that_is_held_makes_its_hart_late(rt: HostRuntime) -> Result<(), Fail> {
     let alloc = rt.alloc();
-    let mut late = 0u32;
+    let mut was_late = false;
     for _ in 0..20 {
         let holding = Holding {
             pauses: AtomicU64::new(0),
@@ -221,10 +221,10 @@ fn a_worker_that_is_held_makes_its_hart_late(rt: HostRuntime) -> Result<(), Fail
         let (kept, is_late) = without_late_lines(alloc, text.as_slice())?;
         assert_eq!(rt; kept.as_slice(), APART_TEXT);
         if is_late {
-            late += 1;
+            was_late = true;
         }
     }
-    assert!(rt; late > 0);
+    assert!(rt; was_late);
     Ok(())
 }
 
