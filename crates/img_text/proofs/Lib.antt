@@ -8,6 +8,7 @@ pub mod RightLines
 pub mod Grammar
 pub mod Spelled
 pub mod Texts
+pub mod Used
 pub mod RoundTrip
 pub mod PartsJoined
 pub mod Harts

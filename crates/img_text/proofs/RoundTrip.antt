@@ -21,8 +21,9 @@ use Rattle.img_text.specs.Image.{ImageRecord, HasBytes, IsImage, filled}
 use Rattle.mach_base.specs.Sequence.{◌>>=◌}
 use Rattle.img_text.specs.Directives.{line_of, directive_of, has_count, least_of, most_of, largest_of, is_comment}
 use Rattle.img_text.specs.Reading.{Draft, start, end_of, value_bytes, applied, after_line, read_line, read_lines, has_text, whole_image, no_starts, is_header, image_of_lines, image_of}
-use Rattle.img_text.specs.Writing.{name_of, directive_text, values_of, values_text, part_text, parts_text, starts_text, image_text, StartFits}
+use Rattle.img_text.specs.Writing.{name_of, directive_text, values_of, values_text, used_values, written_values, part_text, parts_text, starts_text, image_text, StartFits}
 use Rattle.img_text.proofs.Steps.{lines_more}
+use Rattle.img_text.proofs.Used.{filled_up, used-few, leaves_out}
 use Rattle.img_text.proofs.Spelled.{Solid-test, is_solid, IsPlain, AllFit, line_text, directive_text-line, IsPlain-line, lines_of-plain, words_of-line, each_number-dec_text}
 
 -- a name that stands for a directive
@@ -168,14 +169,31 @@ unfolding applied
 begin-one s ps pcs sps bounds order =
     rw (eq-eqb _ _ bounds.0, eq-eqb _ _ bounds.1, lt-ltb _ _ bounds.2, le-leb _ _ bounds.3, le-leb _ _ order) refl
 
-Reads-part : (p : Part) (ps : List Part) (pcs sps : List (Option ℕ)) → HasBounds p.segment → end_of ps ≤ p.segment.base → IsWhole p → HasBytes p → Reads (drafted ps pcs sps) (part_text p) (drafted (p ∷ ps) pcs sps)
+-- a part with the bytes that are written of it
+abbrev written : Part → Part
+written p = with_bytes p.segment (flat_map (value_bytes Eight) (written_values p.bytes))
+
+eighths : (p : Part) → HasBounds p.segment → IsWhole p → length p.bytes ≡ 8 * (length p.bytes / 8)
+eighths p bounds whole =
+    let long : length p.bytes ≡ p.segment.len = whole in
+    by (length p.bytes) (ap (λ n. n % 8) long ∙ bounds.1)
+  where
+    by : (n : ℕ) → n % 8 ≡ 0 → n ≡ 8 * (n / 8)
+    by n h = omega arith
+
+AllFit-used : (vs : List ℕ) → AllFit vs → AllFit (used_values vs)
+AllFit-used vs fit = front (used_values vs) _ (subst AllFit (leaves_out vs).whole fit)
+  where
+    front : (us ws : List ℕ) → AllFit (us ++ ws) → AllFit us
+    front [] ws h = tt
+    front (u ∷ us) ws h = (h.0, front us ws h.1)
+
+Reads-part : (p : Part) (ps : List Part) (pcs sps : List (Option ℕ)) → HasBounds p.segment → end_of ps ≤ p.segment.base → IsWhole p → HasBytes p → Reads (drafted ps pcs sps) (part_text p) (drafted (written p ∷ ps) pcs sps)
 unfolding part_text
 Reads-part p ps pcs sps bounds order whole each =
     let s = p.segment in
-    let count = length p.bytes / 8 in
+    let vs = values_of (length p.bytes / 8) p.bytes in
     let long : length p.bytes ≡ s.len = whole in
-    let aligned : s.len % 8 ≡ 0 = bounds.1 in
-    let eights : length p.bytes ≡ 8 * count = eighths (length p.bytes) (ap (λ n. n % 8) long ∙ aligned) in
     let top : s.base + s.len ≤ 2 ^ 63 = bounds.3 in
     let base_fits : s.base < 2 ^ 64 = omega arith in
     let len_fits : s.len < 2 ^ 64 = omega arith in
@@ -183,27 +201,22 @@ Reads-part p ps pcs sps bounds order whole each =
     let len_small : s.len ≤ 18446744073709551615 = omega arith in
     let numbers : HasNumbers (Begin s.kind) (s.base ∷ s.len ∷ []) = record { fits = (base_fits, (len_fits, tt)); small = (base_small, (len_small, tt)); count = refl } in
     let first = Reads-directive (drafted ps pcs sps) (drafted (with_bytes s [] ∷ ps) pcs sps) (name_of s.kind) (Begin s.kind) (s.base ∷ s.len ∷ []) (IsName-kind s.kind) numbers (begin-one s ps pcs sps bounds order) in
-    let room : 0 + 8 * length (values_of count p.bytes) ≤ s.len = omega (arith, length-values_of count p.bytes) in
-    let values = Reads-values (values_of count p.bytes) s [] ps pcs sps room (AllFit-values_of count p.bytes each) in
-    let P : List ℕ → Type 0 = λ bs. Reads (drafted ps pcs sps) (directive_text (name_of s.kind) (s.base ∷ s.len ∷ []) ++ values_text (values_of count p.bytes)) (drafted (with_bytes s bs ∷ ps) pcs sps) in
-    subst P (value_bytes-values_of count p.bytes eights each)
-    (Reads-both (drafted ps pcs sps) (drafted (with_bytes s [] ∷ ps) pcs sps) (drafted (with_bytes s (flat_map (value_bytes Eight) (values_of count p.bytes)) ∷ ps) pcs sps) (directive_text (name_of s.kind) (s.base ∷ s.len ∷ [])) (values_text (values_of count p.bytes)) first values)
-  where
-    eighths : (n : ℕ) → n % 8 ≡ 0 → n ≡ 8 * (n / 8)
-    eighths n h = omega arith
+    let room : 0 + 8 * length (used_values vs) ≤ s.len = omega (arith, length-values_of (length p.bytes / 8) p.bytes, used-few vs, eighths p bounds whole) in
+    let values = Reads-values (used_values vs) s [] ps pcs sps room (AllFit-used vs (AllFit-values_of (length p.bytes / 8) p.bytes each)) in
+    Reads-both (drafted ps pcs sps) (drafted (with_bytes s [] ∷ ps) pcs sps) (drafted (written p ∷ ps) pcs sps) (directive_text (name_of s.kind) (s.base ∷ s.len ∷ [])) (values_text (used_values vs)) first values
 
 reverse-cons : (p : Part) (ps before : List Part) → reverse (p ∷ ps) ++ before ≡ reverse ps ++ (p ∷ before)
 reverse-cons p ps before = ap (λ qs. qs ++ before) (reverse-append (p ∷ []) ps) ∙ append_assoc (reverse ps) (p ∷ []) before
 
-Reads-parts : (parts before : List Part) (pcs sps : List (Option ℕ)) → AllByRecursion HasBounds (segments_of parts) → AreInOrder (end_of before) (segments_of parts) → AllByRecursion IsWhole parts → AllByRecursion HasBytes parts → Reads (drafted before pcs sps) (parts_text parts) (drafted (reverse parts ++ before) pcs sps)
+Reads-parts : (parts before : List Part) (pcs sps : List (Option ℕ)) → AllByRecursion HasBounds (segments_of parts) → AreInOrder (end_of before) (segments_of parts) → AllByRecursion IsWhole parts → AllByRecursion HasBytes parts → Reads (drafted before pcs sps) (parts_text parts) (drafted (reverse (map written parts) ++ before) pcs sps)
 unfolding parts_text
 Reads-parts [] before pcs sps bounds order whole each = Reads-none (drafted before pcs sps)
 Reads-parts (p ∷ ps) before pcs sps bounds order whole each =
     let first = Reads-part p before pcs sps bounds.0 order.0 whole.0 each.0 in
-    let rest = Reads-parts ps (p ∷ before) pcs sps bounds.1 order.1 whole.1 each.1 in
+    let rest = Reads-parts ps (written p ∷ before) pcs sps bounds.1 order.1 whole.1 each.1 in
     let P : List Part → Type 0 = λ qs. Reads (drafted before pcs sps) (part_text p ++ parts_text ps) (drafted qs pcs sps) in
-    subst P (sym (reverse-cons p ps before))
-    (Reads-both (drafted before pcs sps) (drafted (p ∷ before) pcs sps) (drafted (reverse ps ++ (p ∷ before)) pcs sps) (part_text p) (parts_text ps) first rest)
+    subst P (sym (reverse-cons (written p) (map written ps) before))
+    (Reads-both (drafted before pcs sps) (drafted (written p ∷ before) pcs sps) (drafted (reverse (map written ps) ++ (written p ∷ before)) pcs sps) (part_text p) (parts_text ps) first rest)
 
 -- a start that is given
 start-one : (front rest : List (Option ℕ)) (hart addr : ℕ) → length front ≡ hart → hart < 16 → start hart addr (front ++ None ∷ rest) ≡ Ok (front ++ Some addr ∷ rest)
@@ -258,10 +271,10 @@ IsKind-sp parts pcs = record {
 }
 
 -- all lines from the second on
-Reads-all : (image : ImageRecord) → IsImage image → AllByRecursion StartFits image.pcs → AllByRecursion StartFits image.sps → Reads (drafted [] no_starts no_starts) (parts_text image.parts ++ (starts_text (codes "pc") 0 image.pcs ++ starts_text (codes "sp") 0 image.sps)) (drafted (reverse image.parts) image.pcs image.sps)
+Reads-all : (image : ImageRecord) → IsImage image → AllByRecursion StartFits image.pcs → AllByRecursion StartFits image.sps → Reads (drafted [] no_starts no_starts) (parts_text image.parts ++ (starts_text (codes "pc") 0 image.pcs ++ starts_text (codes "sp") 0 image.sps)) (drafted (reverse (map written image.parts)) image.pcs image.sps)
 Reads-all image rules pcs_fit sps_fit =
     let start = drafted [] no_starts no_starts in
-    let parts = reverse image.parts in
+    let parts = reverse (map written image.parts) in
     let P : List Part → Type 0 = λ qs. Reads start (parts_text image.parts) (drafted qs no_starts no_starts) in
     let first = subst P (nothing_behind parts) (Reads-parts image.parts [] no_starts no_starts rules.segments.bounds rules.segments.order rules.whole rules.bytes) in
     let pcs = Reads-starts (codes "pc") Pc (λ pcs. drafted parts pcs no_starts) (IsKind-pc parts no_starts) image.pcs [] 0 refl (omega (arith, rules.pcs)) pcs_fit in
@@ -275,19 +288,25 @@ Reads-all image rules pcs_fit sps_fit =
     nothing_behind [] = refl
     nothing_behind (p ∷ ps) = ap (λ qs. p ∷ qs) (nothing_behind ps)
 
--- filling up a part that has all its bytes changes nothing
-filled-whole : (parts : List Part) → AllByRecursion IsWhole parts → map (λ (p : Part). filled p.segment p.bytes) parts ≡ parts
-filled-whole [] whole = refl
-filled-whole (p ∷ ps) whole =
-    let none : p.segment.len - length p.bytes ≡ 0 = omega (arith, whole.0) in
-    let same : p.bytes ++ replicate (p.segment.len - length p.bytes) 0 ≡ p.bytes = rw none (append_nil p.bytes) in
-    ap (λ bs. with_bytes p.segment bs ∷ map (λ (q : Part). filled q.segment q.bytes) ps) same ∙ ap (λ qs. p ∷ qs) (filled-whole ps whole.1)
+-- filling up what is written of a part gives the part
+filled-written : (parts : List Part) → AllByRecursion HasBounds (segments_of parts) → AllByRecursion IsWhole parts → AllByRecursion HasBytes parts → map (λ (p : Part). filled p.segment p.bytes) (map written parts) ≡ parts
+filled-written [] bounds whole each = refl
+filled-written (p ∷ ps) bounds whole each =
+    let vs = values_of (length p.bytes / 8) p.bytes in
+    let all : flat_map (value_bytes Eight) vs ≡ p.bytes = value_bytes-values_of (length p.bytes / 8) p.bytes (eighths p bounds.0 whole.0) each.0 in
+    let long : length p.bytes ≡ p.segment.len = whole.0 in
+    let same = filled_up vs p.segment.len (ap length all ∙ long) ∙ all in
+    ap (λ bs. with_bytes p.segment bs ∷ map (λ (q : Part). filled q.segment q.bytes) (map written ps)) same ∙ ap (λ qs. p ∷ qs) (filled-written ps bounds.1 whole.1 each.1)
 
-whole_image-same : (number : ℕ) (image : ImageRecord) → IsImage image → has_text (segments_of image.parts) ≡ true → whole_image number image.parts image.pcs image.sps ≡ Ok image
+segments-written : (parts : List Part) → segments_of (map written parts) ≡ segments_of parts
+segments-written [] = refl
+segments-written (p ∷ ps) = ap (λ ss. p.segment ∷ ss) (segments-written ps)
+
+whole_image-same : (number : ℕ) (image : ImageRecord) → IsImage image → has_text (segments_of image.parts) ≡ true → whole_image number (map written image.parts) image.pcs image.sps ≡ Ok image
 unfolding whole_image
 whole_image-same number image rules text =
-    rw (text, le-ltb _ _ rules.segments.few, le-ltb _ _ rules.segments.small)
-    (ap (λ parts. Ok (record { parts = parts; pcs = image.pcs; sps = image.sps })) (filled-whole image.parts rules.whole))
+    rw (segments-written image.parts, text, le-ltb _ _ rules.segments.few, le-ltb _ _ rules.segments.small)
+    (ap (λ parts. Ok (record { parts = parts; pcs = image.pcs; sps = image.sps })) (filled-written image.parts rules.segments.bounds rules.whole rules.bytes))
 
 -- the first line
 lines_of-header : (rest : List ℕ) → lines_of (directive_text (codes "kimg") (1 ∷ []) ++ rest) ≡ line_text (codes "kimg") (1 ∷ []) ∷ lines_of rest
@@ -315,6 +334,6 @@ unfolding image_text image_of_lines read_lines
 image_of-image_text image rules text pcs_fit sps_fit =
     let body = parts_text image.parts ++ (starts_text (codes "pc") 0 image.pcs ++ starts_text (codes "sp") 0 image.sps) in
     let all = Reads-all image rules pcs_fit sps_fit [] 2 in
-    let read : read_lines 2 (drafted [] no_starts no_starts) (lines_of body) ≡ whole_image all.0 (reverse (reverse image.parts)) image.pcs image.sps =
-    ap (λ t. read_lines 2 (drafted [] no_starts no_starts) (lines_of t)) (sym (append_nil body)) ∙ (all.1 ∙ lines_over all.0 (drafted (reverse image.parts) image.pcs image.sps)) in
-    ap image_of_lines (lines_of-header body) ∙ (rw header-first (read ∙ (ap (λ ps. whole_image all.0 ps image.pcs image.sps) (reverse-reverse image.parts) ∙ whole_image-same all.0 image rules text)))
+    let read : read_lines 2 (drafted [] no_starts no_starts) (lines_of body) ≡ whole_image all.0 (reverse (reverse (map written image.parts))) image.pcs image.sps =
+    ap (λ t. read_lines 2 (drafted [] no_starts no_starts) (lines_of t)) (sym (append_nil body)) ∙ (all.1 ∙ lines_over all.0 (drafted (reverse (map written image.parts)) image.pcs image.sps)) in
+    ap image_of_lines (lines_of-header body) ∙ (rw header-first (read ∙ (ap (λ ps. whole_image all.0 ps image.pcs image.sps) (reverse-reverse (map written image.parts)) ∙ whole_image-same all.0 image rules text)))

@@ -1,5 +1,5 @@
 -- A text of the format kimg for an image.
-use Rattle.std.specs.Prelude.{ℕ, ◌+◌, ◌/◌, ◌^◌, ◌<◌, zero, suc, List, [], ◌∷◌, ◌++◌, length, take, drop, codes, Option, Some, None}
+use Rattle.std.specs.Prelude.{ℕ, ◌+◌, ◌/◌, ◌^◌, ◌<◌, ◌==◌, zero, suc, if◌then◌else◌, List, [], ◌∷◌, ◌++◌, length, take, drop, codes, Option, Some, None}
 use Rattle.std.specs.Int.{w64, from_le_bytes}
 use Rattle.mach_base.specs.declared.memory_range.Kind.{Kind}
 use Rattle.mach_base.specs.declared.memory_range.Kind.TheVariants.{Text, Data, Rodata}
@@ -32,10 +32,24 @@ unfoldable pub values_text : List ℕ → List ℕ
 values_text [] = []
 values_text (v ∷ vs) = directive_text (codes "d") (v ∷ []) ++ values_text vs
 
+-- a value before others, of which the zeros at the end are left out; it is left out with them where it is 0 itself
+abbrev pub before_used : ℕ → List ℕ → List ℕ
+before_used v [] = if v == 0 then [] else v ∷ []
+before_used v (w ∷ ws) = v ∷ w ∷ ws
+
+-- the values up to the last that isn't 0
+unfoldable pub used_values : List ℕ → List ℕ
+used_values [] = []
+used_values (v ∷ vs) = before_used v (used_values vs)
+
+-- the values of a segment that are written: the bytes after them are 0
+abbrev pub written_values : List ℕ → List ℕ
+written_values bytes = used_values (values_of (length bytes / 8) bytes)
+
 -- a segment and its values
 unfoldable pub part_text : Part → List ℕ
 part_text p =
-    directive_text (name_of p.segment.kind) (p.segment.base ∷ p.segment.len ∷ []) ++ values_text (values_of (length p.bytes / 8) p.bytes)
+    directive_text (name_of p.segment.kind) (p.segment.base ∷ p.segment.len ∷ []) ++ values_text (written_values p.bytes)
 
 -- the segments with their values, in order
 unfoldable pub parts_text : List Part → List ℕ

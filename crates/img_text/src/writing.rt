@@ -1,12 +1,12 @@
 //! Writing of an image file.
 
-ghost use Rattle.std.specs.Prelude.{◌≡◌, ◌+◌, ◌*◌, ◌/◌, ◌<◌, ◌++◌, length, Ok, IsTrue, IfOk, OnOk};
+ghost use Rattle.std.specs.Prelude.{◌≡◌, ◌+◌, ◌*◌, ◌/◌, ◌<◌, ◌≤◌, ◌++◌, length, take, drop, Ok, IsTrue, IfOk, OnOk};
 ghost use Rattle.std.specs.Int.{w64, from_le_bytes};
 ghost use Rattle.std.specs.List.{AllByRecursion};
 ghost use Rattle.mem_map.specs.Parts.{segments_of};
 ghost use Rattle.img_text.specs.Image.{IsImage};
 ghost use Rattle.img_text.specs.Reading.{has_text, image_of};
-ghost use Rattle.img_text.specs.Writing.{name_of, directive_text, values_of, values_text, part_text, parts_text, start_text, starts_text, image_text, StartFits};
+ghost use Rattle.img_text.specs.Writing.{name_of, directive_text, values_of, values_text, written_values, part_text, parts_text, start_text, starts_text, image_text, StartFits};
 
 use crate::image::Image;
 use mach_base::{Kind, OutOfMemory, Segment, push_dec};
@@ -82,11 +82,11 @@ fn push_part(out: &mut Vec<u8>, segment: Segment, bytes: &[u8]) -> Result<(), Ou
     Ok(())
 }
 
-/// Appends a line for each eight bytes.
+/// Appends a line for each eight bytes, up to the last byte that isn't 0.
 fn push_values(out: &mut Vec<u8>, bytes: &[u8]) -> Result<(), OutOfMemory>
-    ensures { OnOk result (out.new.items ≡ out.old.items ++ values_text (values_of (length bytes.now / 8) bytes.now)) }
+    ensures { OnOk result (out.new.items ≡ out.old.items ++ values_text (written_values bytes.now)) }
 {
-    let count = bytes.len() / 8;
+    let count = used_count(bytes);
     let mut left = bytes;
     for _ in 0..count {
         let (front, rest) = left.split_at(8);
@@ -94,6 +94,30 @@ fn push_values(out: &mut Vec<u8>, bytes: &[u8]) -> Result<(), OutOfMemory>
         left = rest;
     }
     Ok(())
+}
+
+/// How many values of eight bytes there are up to the last that isn't 0.
+fn used_count(bytes: &[u8]) -> usize
+    ensures value { values_of result bytes.now ≡ written_values bytes.now }
+    ensures few { 8 * result ≤ length bytes.now }
+{
+    let count = bytes.len() / 8;
+    for left_out in 0..count {
+        if value_at(bytes, count - 1 - left_out) != 0 {
+            return count - left_out;
+        }
+    }
+    0
+}
+
+/// The value of this number, from 0, of those that the bytes have.
+fn value_at(bytes: &[u8], number: usize) -> u64
+    requires { number < length bytes.now / 8 }
+    ensures { result ≡ from_le_bytes w64 (take 8 (drop (8 * number) bytes.now)) }
+{
+    let (_, rest) = bytes.split_at(8 * number);
+    let (front, _) = rest.split_at(8);
+    value_of(front)
 }
 
 /// The value of eight bytes, the lowest first.

@@ -24,7 +24,7 @@ use Rattle.kdb_table.specs.Diagnostics.{diagnostic_text}
 use Rattle.kdb_table.specs.Table.{row_of, spelled_width}
 use Rattle.kdb_view.specs.Arguments.{address, values_of}
 use Rattle.kdb_view.specs.Scope.{width_in}
-use Rattle.kdb_view.specs.MemoryDisplay.{md_text, md_count_text, mdr_text, mds_text}
+use Rattle.kdb_view.specs.MemoryDisplay.{md_text, md_count_text, mdr_text, mds_text, id_text}
 use Rattle.kdb_cmd.specs.command.MemoryChange.{mm_answer}
 use Rattle.kdb_cmd.specs.command.Registers.{rm_answer}
 use Rattle.kdb_view.specs.Breakpoints.{bl_text, bp_answer, change_answer}
@@ -41,6 +41,7 @@ display_text show.MdWidth word v gathered s = md_text s (spelled_width word) v
 display_text show.MdCount word v gathered s = md_count_text s word v
 display_text show.Mdr word v gathered s = mdr_text s v
 display_text show.Mds word v gathered s = mds_text s v
+display_text show.Id word v gathered s = id_text s v
 display_text show.Rd word v gathered s = Ok (registers_text (current_context s))
 display_text show.BpList word v gathered s = Ok (bl_text s.symbols s.places)
 display_text show.Bl word v gathered s = Ok (bl_text s.symbols s.places)

@@ -5,6 +5,7 @@ use Rattle.mach_base.specs.Texts.{newline, address_text}
 use Rattle.mach_base.specs.Machine.{Memory, Symbol}
 use Rattle.mach_base.specs.Bytes.{byte_or_zero, number_in}
 use Rattle.sym_map.specs.Texts.{name_text}
+use Rattle.rv_asm.specs.Spelling.{insn_text}
 
 -- a word after a blank: its value, in two digits a byte
 unfoldable pub word_text : Memory → ℕ → ℕ → List ℕ
@@ -61,3 +62,12 @@ symbol_line m symbols addr =
 abbrev pub syms_text : Memory → List Symbol → ℕ → ℕ → List ℕ
 syms_text m symbols addr zero = []
 syms_text m symbols addr (suc n) = syms_text m symbols addr n ++ symbol_line m symbols (addr + 8 * n)
+
+-- a line of one instruction: its address, and after a blank its spelling
+unfoldable pub instruction_line : Memory → ℕ → List ℕ
+instruction_line m addr = address_text addr ++ (codes " " ++ (insn_text (number_in m addr 4) ++ newline))
+
+-- this many such lines from the address on
+abbrev pub instructions_text : Memory → ℕ → ℕ → List ℕ
+instructions_text m addr zero = []
+instructions_text m addr (suc n) = instructions_text m addr n ++ instruction_line m (addr + 4 * n)

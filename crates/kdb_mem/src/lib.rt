@@ -5,11 +5,12 @@
 //!   bytes; the last line of a text may be shorter.
 //! - A range is shown only where all of it is *mapped*: else it is refused with its first unmapped address.
 //!
-//! It stands on `mach_base`, whose trait `Peek` is how it sees memory, and on the symbols (`sym_map`); the debugger's
-//! commands stand on it.
+//! It stands on `mach_base`, whose trait `Peek` is how it sees memory, on the symbols (`sym_map`) and on the spelling of
+//! instructions (`rv_asm`); the debugger's commands stand on it.
 #![tactic(auto)]
 
 mod change;
+mod instruction_lines;
 mod lines;
 mod mem_fault;
 mod range;
@@ -18,6 +19,7 @@ mod symbol_lines;
 mod tests;
 
 pub use change::modify;
+pub use instruction_lines::insns;
 pub use lines::{raw, show};
 pub use mem_fault::MemFault;
 pub use symbol_lines::syms;

@@ -57,7 +57,8 @@ fn word_of_2<P: Peek>(mem: &P, addr: u64) -> u16
     u16::from_le_bytes([byte(mem, addr), byte(mem, addr + 1)])
 }
 
-fn word_of_4<P: Peek>(mem: &P, addr: u64) -> u32
+/// The value of the word of 4 bytes at an address.
+pub fn word_of_4<P: Peek>(mem: &P, addr: u64) -> u32
     requires { addr + 4 ≤ 2 ^ 64 }
     ensures { result ≡ number_in (P.memory mem.now) addr 4 }
 {

@@ -44,6 +44,22 @@ fn shows_words_bytes_and_symbols(rt: HostRuntime) -> Result<(), Fail> {
 }
 
 #[test]
+fn shows_instructions(rt: HostRuntime) -> Result<(), Fail> {
+    let mem = ByteList::new([0x13, 0x05, 0x50, 0, 0x73, 0, 0x10, 0, 0x73, 0, 0, 0].to_vec(
+        rt.alloc(),
+    )?);
+    let mut out = Vec::new(rt.alloc());
+    assert_eq!(rt; insns(&mem, &mut out, 2, 1), Err(MemFault::BadAddr(2)));
+    assert_eq!(rt; insns(&mem, &mut out, 8, 2), Err(MemFault::BadAddr(12)));
+    assert_eq!(rt; insns(&mem, &mut out, 0, 3), Ok(()));
+    assert_eq!(rt;
+        out.as_slice(),
+        b"0x0000000000000000 addi a0, zero, 5\n0x0000000000000004 ebreak\n0x0000000000000008 ecall\n".as_slice()
+    );
+    Ok(())
+}
+
+#[test]
 fn writes_little_endian(rt: HostRuntime) -> Result<(), Fail> {
     let mut mem = sample(rt.alloc())?;
     let mut out = Vec::new(rt.alloc());

@@ -7,7 +7,7 @@ use Rattle.mach_base.specs.declared.number.NumFault.{NumFault}
 use Rattle.kdb_table.specs.declared.commands.Entry.{Entry}
 use Rattle.kdb_table.specs.declared.commands.Entry.TheVariants.{Run, Define}
 use Rattle.kdb_table.specs.declared.commands.Command.TheVariants.{Show, Mm, MmWidth, Rm, Bp, Change, Cpu, SetOneWord, Set, Ss, Go}
-use Rattle.kdb_table.specs.declared.commands.ShowCommand.TheVariants.{Md, MdWidth, MdCount, Mdr, Mds, Rd, BpList, Bl, Bt, Btc, CpuList, Env, Help}
+use Rattle.kdb_table.specs.declared.commands.ShowCommand.TheVariants.{Md, MdWidth, MdCount, Mdr, Mds, Id, Rd, BpList, Bl, Bt, Btc, CpuList, Env, Help}
 use Rattle.kdb_table.specs.declared.commands.BreakpointChange.TheVariants.{Clear, Disable, Enable}
 use Rattle.kdb_table.specs.declared.table.Ending.{Ending}
 use Rattle.kdb_table.specs.declared.table.Ending.TheVariants.{Plain, Width, WidthAndCount}
@@ -37,6 +37,7 @@ row_of (Run (Show MdWidth)) = expression_row (codes "md") Width (codes "mdW E [E
 row_of (Run (Show MdCount)) = expression_row (codes "md") WidthAndCount (codes "mdWcN E") 1 1
 row_of (Run (Show Mdr)) = expression_row (codes "mdr") Plain (codes "mdr E E") 2 2
 row_of (Run (Show Mds)) = expression_row (codes "mds") Plain (codes "mds E [E]") 1 2
+row_of (Run (Show Id)) = expression_row (codes "id") Plain (codes "id E [E]") 1 2
 row_of (Run Mm) = expression_row (codes "mm") Plain (codes "mm E E") 2 2
 row_of (Run MmWidth) = expression_row (codes "mm") Width (codes "mmW E E") 2 2
 row_of (Run (Show Rd)) = plain_row (codes "rd") (codes "rd") 0 0
@@ -62,8 +63,8 @@ row_of (Run (Show Help)) = plain_row (codes "help") (codes "help") 0 0
 -- the entries, in the order of `help`
 unfoldable pub entries : List Entry
 entries =
-    Run (Show Md) ∷ Run (Show MdWidth) ∷ Run (Show MdCount) ∷ Run (Show Mdr) ∷ Run (Show Mds) ∷ Run Mm ∷ Run MmWidth
-    ∷ Run (Show Rd) ∷ Run Rm ∷ Run (Show BpList) ∷ Run Bp ∷ Run (Show Bl) ∷ Run (Change Clear) ∷ Run (Change Disable) ∷ Run (Change Enable)
+    Run (Show Md) ∷ Run (Show MdWidth) ∷ Run (Show MdCount) ∷ Run (Show Mdr) ∷ Run (Show Mds) ∷ Run (Show Id)
+    ∷ Run Mm ∷ Run MmWidth ∷ Run (Show Rd) ∷ Run Rm ∷ Run (Show BpList) ∷ Run Bp ∷ Run (Show Bl) ∷ Run (Change Clear) ∷ Run (Change Disable) ∷ Run (Change Enable)
     ∷ Run Ss ∷ Run Go ∷ Run (Show Bt) ∷ Run (Show Btc) ∷ Run (Show CpuList) ∷ Run Cpu
     ∷ Run (Show Env) ∷ Run SetOneWord ∷ Run Set ∷ Define ∷ Run (Show Help) ∷ []
 

@@ -47,6 +47,8 @@ pub enum ShowCommand {
     Mdr,
     /// `mds E [E]`: words of memory with the symbols that they are near.
     Mds,
+    /// `id E [E]`: the instructions in memory.
+    Id,
     /// `rd`: the registers.
     Rd,
     /// `bp`: the breakpoints that are set.

@@ -6,12 +6,13 @@ use crate::commands::{BreakpointChange, Command, Entry, ShowCommand};
 use std::marker::Model;
 
 /// The entries, in the order of `help`.
-pub static ENTRIES: [Entry; 26] = [
+pub static ENTRIES: [Entry; 27] = [
     Entry::Run(Command::Show(ShowCommand::Md)),
     Entry::Run(Command::Show(ShowCommand::MdWidth)),
     Entry::Run(Command::Show(ShowCommand::MdCount)),
     Entry::Run(Command::Show(ShowCommand::Mdr)),
     Entry::Run(Command::Show(ShowCommand::Mds)),
+    Entry::Run(Command::Show(ShowCommand::Id)),
     Entry::Run(Command::Mm),
     Entry::Run(Command::MmWidth),
     Entry::Run(Command::Show(ShowCommand::Rd)),
@@ -153,6 +154,13 @@ pub fn row_of(entry: Entry) -> Row
             b"mds",
             Ending::Plain,
             b"mds E [E]",
+            1,
+            2,
+        ),
+        Entry::Run(Command::Show(ShowCommand::Id)) => expression_row(
+            b"id",
+            Ending::Plain,
+            b"id E [E]",
             1,
             2,
         ),

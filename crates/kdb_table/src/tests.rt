@@ -20,6 +20,7 @@ fn commands_are_spelled(rt: HostRuntime) {
             1,
             Some(Entry::Run(Command::Show(ShowCommand::MdCount))),
         ),
+        (b"id", 2, Some(Entry::Run(Command::Show(ShowCommand::Id)))),
         (b"md8c012", 1, None),
         (b"md3", 1, None),
         (

@@ -2,15 +2,16 @@
 use Rattle.std.specs.Prelude.{ℕ, ◌*◌, ◌/◌, List, unwrap_or, Option, Some, None, Result, Ok, Err}
 use Rattle.mach_base.specs.Machine.{Memory, Symbol, LineState}
 use Rattle.mach_base.specs.Sequence.{◌>>=◌}
-use Rattle.kdb_mem.specs.Range.{first_unmapped}
+use Rattle.kdb_mem.specs.Range.{first_unmapped, first_refused}
 use Rattle.kdb_mem.specs.Shown.{show_text, raw_text, syms_text}
+use Rattle.kdb_mem.specs.Shown as shown
 use Rattle.kdb_view.specs.declared.arguments.Values.{Values}
 use Rattle.kdb_table.specs.declared.diagnostics.Diagnostic.{Diagnostic}
 use Rattle.kdb_table.specs.declared.diagnostics.Diagnostic.TheVariants.{BadAddress}
 use Rattle.kdb_view.specs.Arguments.{address, count_wanted, count_or_diagnostic, lines_wanted}
 use Rattle.kdb_table.specs.Table.{spelled_width, spelled_count}
 
--- the text, unless an address isn't mapped
+-- the text, unless an address is refused
 abbrev pub unless_unmapped : Option ℕ → List ℕ → Result (List ℕ) Diagnostic
 unless_unmapped None text = Ok text
 unless_unmapped (Some addr) text = Err (BadAddress addr)
@@ -43,3 +44,11 @@ symbols_text m symbols addr count = unless_unmapped (first_unmapped m addr (coun
 -- `mds E [E]`: words with the symbols that they are near, a line for each
 unfoldable pub mds_text : LineState → Values → Result (List ℕ) Diagnostic
 mds_text s v = lines_wanted s v.second >>= λ lines. symbols_text s.memory s.symbols (address v) lines
+
+-- this many instructions from the address on, each on a line
+unfoldable pub instructions_text : Memory → ℕ → ℕ → Result (List ℕ) Diagnostic
+instructions_text m addr count = unless_unmapped (first_refused m addr (count * 4)) (shown.instructions_text m addr count)
+
+-- `id E [E]`: instructions, a line for each; an address that is no multiple of 4 is refused after the count
+unfoldable pub id_text : LineState → Values → Result (List ℕ) Diagnostic
+id_text s v = lines_wanted s v.second >>= λ lines. instructions_text s.memory (address v) lines

@@ -1,11 +1,11 @@
 ghost use Rattle.std.specs.Prelude.{◌≡◌, ◌≤◌, IfOk};
 ghost use Rattle.mach_base.specs.Bytes.{IsWidth};
 ghost use Rattle.kdb_table.specs.Refused.{Answers};
-ghost use Rattle.kdb_view.specs.MemoryDisplay.{words_text, bytes_text, symbols_text, md_text, md_count_text, mdr_text, mds_text};
+ghost use Rattle.kdb_view.specs.MemoryDisplay.{words_text, bytes_text, symbols_text, md_text, md_count_text, mdr_text, mds_text, instructions_text, id_text};
 
 use crate::arguments::{Values, count_wanted, lines_wanted};
 use crate::view::View;
-use kdb_mem::{MemFault, raw, show, syms};
+use kdb_mem::{MemFault, insns, raw, show, syms};
 use kdb_table::{Diagnostic, Refusal, spelled_count, spelled_width};
 use mach_base::{Peek, Text};
 use std::alloc::Global;
@@ -120,4 +120,32 @@ pub fn mds<P: Peek>(alloc: Global, view: &View<P>, values: Values) -> Result<Tex
 {
     let lines = lines_wanted(view, values.second)?;
     symbols_text(alloc, view.mem, view.names, values.address(), lines)
+}
+
+/// This many instructions, each on a line.
+#[tactic(auto, unfolding(crate::specs::MemoryDisplay::instructions_text))]
+fn instructions_text<P: Peek>(
+    alloc: Global,
+    mem: &P,
+    addr: u64,
+    count: u32,
+) -> Result<Text, Refusal>
+    ensures { Answers result (instructions_text (P.memory mem.now) addr count) }
+{
+    let mut out = Vec::new(alloc);
+    match insns(mem, &mut out, addr, count) {
+        Ok(()) => Ok(Text::from_vec(out)),
+        Err(MemFault::BadAddr(bad)) => Err(Refusal::Diagnosed(Diagnostic::BadAddress(bad))),
+        Err(MemFault::TooWide) => unreachable!(),
+        Err(MemFault::OutOfMemory) => Err(Refusal::OutOfMemory),
+    }
+}
+
+/// `id E [E]`.
+#[tactic(auto, unfolding(crate::specs::MemoryDisplay::id_text))]
+pub fn id<P: Peek>(alloc: Global, view: &View<P>, values: Values) -> Result<Text, Refusal>
+    ensures { Answers result (id_text view.now values) }
+{
+    let lines = lines_wanted(view, values.second)?;
+    instructions_text(alloc, view.mem, values.address(), lines)
 }

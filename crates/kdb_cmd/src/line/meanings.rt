@@ -14,8 +14,8 @@ use kdb_table::{
     Command, Diagnostic, Entry, Refusal, ShowCommand, help_text, row_of, spelled_width, word_at,
 };
 use kdb_view::{
-    Values, View, assignment_of, bl, bp, bt, btc, change_answer, cpu, cpu_list, env, md, md_count,
-    mdr, mds, set, two_words, values_of,
+    Values, View, assignment_of, bl, bp, bt, btc, change_answer, cpu, cpu_list, env, id, md,
+    md_count, mdr, mds, set, two_words, values_of,
 };
 use mach_base::{Hart, Peek, Text};
 use std::alloc::Global;
@@ -39,6 +39,7 @@ fn display_text<P: Peek>(
         ShowCommand::MdCount => md_count(alloc, view, word, values),
         ShowCommand::Mdr => mdr(alloc, view, values),
         ShowCommand::Mds => mds(alloc, view, values),
+        ShowCommand::Id => id(alloc, view, values),
         ShowCommand::Rd => Ok(rd(alloc, view)?),
         ShowCommand::BpList | ShowCommand::Bl => Ok(bl(alloc, view.names, view.kdb.breaks)?),
         ShowCommand::Bt => Ok(bt(alloc, view)?),
