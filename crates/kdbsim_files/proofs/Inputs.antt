@@ -1,9 +1,7 @@
 -- What a file's reading gives is what the shelf's file gives.
-use Rattle.std.proofs.Common.{◌≡◌, ℕ, ◌<◌, ◌≤◌, ◌⊎◌, inl, inr, List, length, Option, Some, None, Result, Ok, Err, refl, sym, ap, ◌∙◌, subst, arith}
-use Rattle.io_edge.specs.Edge.{FileMap, HasRisen, IsTold, last_count}
-use Rattle.kdbsim_files.specs.declared.status.File.{File}
+use Rattle.std.proofs.Common.{◌≡◌, ℕ, ◌≤◌, inl, inr, true, List, [], ◌∷◌, map, Option, None, Ok, Err, refl, sym, ap, ◌∙◌, subst, arith}
+use Rattle.io_edge.specs.Edge.{FileMap, HasRisen, IsTold}
 use Rattle.kdbsim_files.specs.declared.status.Status.{Status}
-use Rattle.kdbsim_files.specs.declared.status.Status.TheVariants.{ReadFault, TooLarge, OutOfMemory}
 use Rattle.img_text.specs.Reading as images
 use Rattle.img_text.specs.declared.fault.ImageFault.{ImageFault}
 use Rattle.img_text.specs.declared.fault.ImageFault.TheVariants as image_faults
@@ -19,8 +17,25 @@ use Rattle.plan_text.specs.declared.fault.PlanFault.TheVariants as plan_faults
 use Rattle.jrn_text.specs.Journal as journals
 use Rattle.jrn_text.specs.declared.fault.JournalFault.{JournalFault}
 use Rattle.jrn_text.specs.declared.fault.JournalFault.TheVariants as journal_faults
-use Rattle.kdbsim_files.specs.Faults.{status_of_image, status_of_map, status_of_script, status_of_plan, status_of_journal}
-use Rattle.kdbsim_files.specs.Files.{Kind, image_file, map_file, script_file, plan_file, journal_file, Value, Means, RefusesText, IsShort, HasFile, IsRefused, FailsAtFile, FailsBefore, file_of}
+use Rattle.mach_base.specs.Machine.{Part}
+use Rattle.mem_map.specs.Parts.{segments_of}
+use Rattle.img_text.specs.Image.{ImageRecord, filled}
+use Rattle.img_text.specs.Reading.{has_text}
+use Rattle.img_text.specs.Grammar.{parts_in}
+use Rattle.asm_text.specs.Grammar.{IsWhatTheLinesMean}
+use Rattle.asm_text.specs.Reading as sources
+use Rattle.asm_text.specs.declared.fault.SourceFault.{SourceFault}
+use Rattle.asm_text.specs.declared.fault.SourceFault.TheVariants as source_faults
+use Rattle.elf_img.specs.Causes.{IsFirst, first_fault}
+use Rattle.elf_img.specs.Segments.{elf_image}
+use Rattle.elf_img.specs.Symbols as elf_symbols
+use Rattle.elf_img.specs.MapText.{map_text, named}
+use Rattle.elf_img.specs.declared.reading.Loaded.{Loaded}
+use Rattle.elf_img.specs.Reading.{causes}
+use Rattle.elf_img.specs.declared.fault.ElfFault.{ElfFault}
+use Rattle.elf_img.specs.declared.fault.ElfFault.TheVariants as elf_faults
+use Rattle.kdbsim_files.specs.Faults.{status_of_image, status_of_map, status_of_script, status_of_plan, status_of_journal, status_of_source, status_of_elf}
+use Rattle.kdbsim_files.specs.Files.{Kind, image_file, map_file, script_file, plan_file, journal_file, source_file, elf_file, RefusesText, IsShort, IsLoaded, FailsAtFile, FailsBefore, file_of}
 
 -- a file that isn't there to be read isn't there to be used
 pub fails_before : (files : Option FileMap) (kind : Kind) (name : List ℕ) (before after : ℕ) (status : Status) → FailsBefore files (file_of kind) name before after status → FailsAtFile files kind name before after status
@@ -57,6 +72,16 @@ journal_fails files name bytes before after (journal_faults.Bad line) told short
 journal_fails files name bytes before after (journal_faults.TooLarge what size) told short h = refused_so files journal_file name bytes before after _ told short (journal_faults.TooLarge what size, h, refl)
 journal_fails files name bytes before after journal_faults.OutOfMemory told short h = inr (inr refl)
 
+pub source_fails : (files : Option FileMap) (name bytes : List ℕ) (before after : ℕ) (fault : SourceFault) → IsTold files name bytes → IsShort source_file bytes → sources.IsFault fault (sources.source_of bytes) → FailsAtFile files source_file name before after (status_of_source fault)
+source_fails files name bytes before after (source_faults.Bad line) told short h = refused_so files source_file name bytes before after _ told short (source_faults.Bad line, h, refl)
+source_fails files name bytes before after (source_faults.TooLarge what size) told short h = refused_so files source_file name bytes before after _ told short (source_faults.TooLarge what size, h, refl)
+source_fails files name bytes before after source_faults.OutOfMemory told short h = inr (inr refl)
+
+pub elf_fails : (files : Option FileMap) (name bytes : List ℕ) (before after : ℕ) (fault : ElfFault) → IsTold files name bytes → IsShort elf_file bytes → IsFirst fault (causes bytes) → FailsAtFile files elf_file name before after (status_of_elf fault)
+elf_fails files name bytes before after (elf_faults.Bad why) told short h = refused_so files elf_file name bytes before after _ told short (elf_faults.Bad why, h, refl)
+elf_fails files name bytes before after (elf_faults.TooLarge what size) told short h = refused_so files elf_file name bytes before after _ told short (elf_faults.TooLarge what size, h, refl)
+elf_fails files name bytes before after elf_faults.OutOfMemory told short h = inr (inr refl)
+
 -- a count that rose later rose from the start on
 pub HasRisen-from : (before between after : ℕ) → before ≤ between → HasRisen between after → HasRisen before after
 HasRisen-from before between after le (inl lt) = inl (omega arith)
@@ -66,3 +91,29 @@ HasRisen-from before between after le (inr e) = inr e
 pub FailsAtFile-from : (files : Option FileMap) (kind : Kind) (name : List ℕ) (before between after : ℕ) (status : Status) → before ≤ between → FailsAtFile files kind name between after status → FailsAtFile files kind name before after status
 FailsAtFile-from files kind name before between after status le (inl h) = inl (h.0, HasRisen-from before between after le h.1)
 FailsAtFile-from files kind name before between after status le (inr h) = inr h
+
+segments_of-filled : (ps : List Part) → segments_of (map (λ (p : Part). filled p.segment p.bytes) ps) ≡ segments_of ps
+segments_of-filled [] = refl
+segments_of-filled (p ∷ ps) = ap (λ rest. p.segment ∷ rest) (segments_of-filled ps)
+
+-- the image of a source has text
+pub source_text : IsWhatTheLinesMean → (bytes : List ℕ) (image : ImageRecord) → sources.source_of bytes ≡ Ok image → has_text (segments_of image.parts) ≡ true
+source_text law bytes image is =
+    let of = law bytes image is in
+    ap (λ ps. has_text (segments_of ps)) of.2.parts ∙ ap has_text (segments_of-filled (parts_in of.0)) ∙ of.2.text
+
+-- what reading an executable gives is what the shelf's file gives
+pub loaded_so : (files : Option FileMap) (name bytes file : List ℕ) (loaded : Loaded) → file ≡ bytes → IsTold files name bytes → IsShort elf_file bytes → first_fault (causes file) ≡ None → loaded.image ≡ elf_image file
+    → loaded.map ≡ map_text (elf_symbols.symbols file) → maps.symbols_of loaded.map ≡ Ok (map named (elf_symbols.symbols file)) → IsLoaded files name loaded
+loaded_so files name bytes file loaded same told short right image_is map_is reads = record {
+  value = record { image = elf_image file; symbols = elf_symbols.symbols file };
+  read = record {
+    bytes = file;
+    told = subst (IsTold files name) (sym same) told;
+    short = subst (IsShort elf_file) (sym same) short;
+    means = record { right = right; image_is = refl; symbols_are = refl };
+  };
+  image_is = image_is;
+  map_is = map_is;
+  reads = reads;
+}

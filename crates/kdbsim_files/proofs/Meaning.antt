@@ -1,16 +1,14 @@
 -- What bytes mean as a file they mean alone, and they are refused in one way at most.
-use Rattle.std.proofs.Common.{◌≡◌, ℕ, ◌<◌, ◌≤◌, ◌⊎◌, inl, inr, List, [], ◌∷◌, length, Option, Some, None, Result, Ok, Err, refl, sym, ap, ◌∙◌, subst, arith}
-use Rattle.io_edge.specs.Edge.{FileMap, HasRisen, bytes_of}
+use Rattle.std.proofs.Common.{◌≡◌, ℕ, ◌<◌, ◌≤◌, inl, inr, List, [], ◌∷◌, length, Option, Some, None, Result, Ok, Err, sym, ap, ◌∙◌, subst, arith}
+use Rattle.io_edge.specs.Edge.{FileMap}
 use Rattle.jrn_text.specs.Laws.{TextsMeanOneThing, IsJournalText}
 use Rattle.jrn_text.specs.Journal as journals
 use Rattle.jrn_text.specs.declared.fault.JournalFault.{JournalFault}
 use Rattle.jrn_text.specs.declared.fault.JournalFault.TheVariants as journal_faults
-use Rattle.mach_base.specs.declared.event.What.{What}
 use Rattle.kdbsim_files.specs.declared.status.Status.{Status}
-use Rattle.kdbsim_files.specs.declared.status.Status.TheVariants.{ReadFault, TooLarge, BadJournal, OutOfMemory}
-use Rattle.kdbsim_files.specs.Faults.{status_of_image, status_of_map, status_of_script, status_of_plan, status_of_journal}
-use Rattle.kdbsim_files.specs.Files.{Kind, image_file, map_file, script_file, plan_file, journal_file, Recording, Value, Means, RefusesText, Refuses, IsShort, IsTooLong, HasFile, HasFailed, IsRefused, FailsAtFile, FailsAt, Input, file_of, size_limit}
-use Rattle.kdbsim_files.specs.Laws.{IsRefusal, FilesMeanOneThing, RefusalsAreOne}
+use Rattle.kdbsim_files.specs.Faults.{status_of_image, status_of_map, status_of_script, status_of_plan, status_of_journal, status_of_source, status_of_elf}
+use Rattle.kdbsim_files.specs.Files.{Kind, image_file, map_file, script_file, plan_file, journal_file, source_file, elf_file, Recording, Executable, IsExecutable, Value, Means, RefusesText, Refuses, IsShort, IsTooLong, HasFile, IsRefused, FailsAtFile, file_of, size_limit}
+use Rattle.kdbsim_files.specs.Laws.{IsRefusal, RefusalsAreOne}
 
 abbrev ok_or : {A E : Type 0} → A → Result A E → A
 ok_or d (Ok a) = a
@@ -32,6 +30,22 @@ is_ok (Err e) = ⊥
 
 not_fault : {A E : Type 0} (r : Result A E) (v : A) (f : E) → r ≡ Ok v → r ≡ Err f → ⊥
 not_fault r v f a b = subst is_ok (sym a ∙ b) tt
+
+abbrev some_or : {A : Type 0} → A → Option A → A
+some_or d (Some a) = a
+some_or d None = d
+
+same_some : {A : Type 0} (o : Option A) (v w : A) → o ≡ Some v → o ≡ Some w → v ≡ w
+same_some o v w a b = ap (some_or v) (sym a ∙ b)
+
+none_not_some : {A : Type 0} (o : Option A) (v : A) → o ≡ None → o ≡ Some v → ⊥
+none_not_some None v a b = absurd (cc)
+none_not_some (Some w) v a b = absurd (cc)
+
+same_executable : (bytes : List ℕ) (v w : Executable) → IsExecutable bytes v → IsExecutable bytes w → v ≡ w
+same_executable bytes v w a b =
+    ap (λ i. record { image = i; symbols = v.symbols }) (a.image_is ∙ sym b.image_is)
+    ∙ ap (λ ss. record { image = w.image; symbols = ss }) (a.symbols_are ∙ sym b.symbols_are)
 
 same_recording : (v w : Recording) → v.harts ≡ w.harts → v.limit ≡ w.limit → v.entries ≡ w.entries → v ≡ w
 same_recording v w harts limit entries =
@@ -57,6 +71,8 @@ means_one law map_file bytes v w a b = same_value _ v w a b
 means_one law script_file bytes v w a b = same_value _ v w a b
 means_one law (plan_file harts) bytes v w a b = same_value _ v w a b
 means_one law journal_file bytes v w a b = same_journal law bytes v w a b
+means_one law source_file bytes v w a b = same_value _ v w a b
+means_one law elf_file bytes v w a b = same_executable bytes v w a b
 
 too_many_text : (bytes : List ℕ) (size : ℕ) (h : journals.HasTooMany bytes size) → IsJournalText bytes h.harts h.limit h.entries
 too_many_text bytes size h = record { journal = h.journal; text_is = h.text_is }
@@ -78,6 +94,8 @@ not_refused law map_file bytes v status is a h = not_fault _ v h.0 a h.1
 not_refused law script_file bytes v status is a h = not_fault _ v h.0 a h.1
 not_refused law (plan_file harts) bytes v status is a h = not_fault _ v h.0 a h.1
 not_refused law journal_file bytes v status is a h = no_journal_fault law bytes v h.0 (subst IsRefusal h.2 is) a h.1
+not_refused law source_file bytes v status is a h = not_fault _ v h.0 a h.1
+not_refused law elf_file bytes v status is a h = none_not_some _ h.0 a.right h.1
 
 same_journal_fault : TextsMeanOneThing → (bytes : List ℕ) (f g : JournalFault) → IsRefusal (status_of_journal f) → IsRefusal (status_of_journal g) → journals.Explains bytes f → journals.Explains bytes g → f ≡ g
 same_journal_fault law bytes (journal_faults.Bad line) (journal_faults.Bad other) is it a b = ap (λ l. journal_faults.Bad l) (law.line bytes line other a b)
@@ -101,6 +119,8 @@ same_text_refusal law script_file bytes s t is it a b = a.2 ∙ ap status_of_scr
 same_text_refusal law (plan_file harts) bytes s t is it a b = a.2 ∙ ap status_of_plan (same_fault _ a.0 b.0 a.1 b.1) ∙ sym b.2
 same_text_refusal law journal_file bytes s t is it a b =
     a.2 ∙ ap status_of_journal (same_journal_fault law bytes a.0 b.0 (subst IsRefusal a.2 is) (subst IsRefusal b.2 it) a.1 b.1) ∙ sym b.2
+same_text_refusal law source_file bytes s t is it a b = a.2 ∙ ap status_of_source (same_fault _ a.0 b.0 a.1 b.1) ∙ sym b.2
+same_text_refusal law elf_file bytes s t is it a b = a.2 ∙ ap status_of_elf (same_some _ a.0 b.0 a.1 b.1) ∙ sym b.2
 
 not_long : (kind : Kind) (bytes : List ℕ) (s : Status) → IsShort kind bytes → IsTooLong (file_of kind) bytes s → ⊥
 not_long kind bytes s short long = let more : size_limit (file_of kind) < length bytes = long.1 in let less : length bytes ≤ size_limit (file_of kind) = short in omega arith

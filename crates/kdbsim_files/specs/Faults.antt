@@ -9,8 +9,12 @@ use Rattle.plan_text.specs.declared.fault.PlanFault.{PlanFault}
 use Rattle.plan_text.specs.declared.fault.PlanFault.TheVariants as plan_faults
 use Rattle.jrn_text.specs.declared.fault.JournalFault.{JournalFault}
 use Rattle.jrn_text.specs.declared.fault.JournalFault.TheVariants as journal_faults
+use Rattle.asm_text.specs.declared.fault.SourceFault.{SourceFault}
+use Rattle.asm_text.specs.declared.fault.SourceFault.TheVariants as source_faults
+use Rattle.elf_img.specs.declared.fault.ElfFault.{ElfFault}
+use Rattle.elf_img.specs.declared.fault.ElfFault.TheVariants as elf_faults
 use Rattle.kdbsim_files.specs.declared.status.Status.{Status}
-use Rattle.kdbsim_files.specs.declared.status.Status.TheVariants.{BadImage, BadMap, BadScript, BadPlan, BadJournal, TooLarge, OutOfMemory}
+use Rattle.kdbsim_files.specs.declared.status.Status.TheVariants.{BadImage, BadMap, BadScript, BadPlan, BadJournal, BadSource, BadElf, TooLarge, OutOfMemory}
 
 abbrev pub status_of_image : ImageFault → Status
 status_of_image (image_faults.Bad line why) = BadImage line why
@@ -36,3 +40,13 @@ abbrev pub status_of_journal : JournalFault → Status
 status_of_journal (journal_faults.Bad line) = BadJournal line
 status_of_journal (journal_faults.TooLarge what size) = TooLarge what size
 status_of_journal journal_faults.OutOfMemory = OutOfMemory
+
+abbrev pub status_of_source : SourceFault → Status
+status_of_source (source_faults.Bad line) = BadSource line
+status_of_source (source_faults.TooLarge what size) = TooLarge what size
+status_of_source source_faults.OutOfMemory = OutOfMemory
+
+abbrev pub status_of_elf : ElfFault → Status
+status_of_elf (elf_faults.Bad why) = BadElf why
+status_of_elf (elf_faults.TooLarge what size) = TooLarge what size
+status_of_elf elf_faults.OutOfMemory = OutOfMemory

@@ -3,7 +3,7 @@ use Rattle.std.specs.Prelude.{◌≡◌, ℕ, List, Some}
 use Rattle.io_edge.specs.Edge.{FileMap}
 use Rattle.kdbsim_files.specs.Files.{Kind, Value, Input, HasFile, IsRefused, FailsAt}
 use Rattle.kdbsim_files.specs.declared.status.Status.{Status}
-use Rattle.kdbsim_files.specs.declared.status.Status.TheVariants.{BadImage, BadMap, BadScript, BadPlan, BadJournal, TooLarge}
+use Rattle.kdbsim_files.specs.declared.status.Status.TheVariants.{BadImage, BadMap, BadScript, BadPlan, BadJournal, BadSource, BadElf, TooLarge}
 
 -- the answers that say what is wrong with a file
 abbrev pub IsRefusal : Status → Type 0
@@ -12,6 +12,8 @@ IsRefusal (BadMap line) = Unit {0}
 IsRefusal (BadScript line) = Unit {0}
 IsRefusal (BadPlan line) = Unit {0}
 IsRefusal (BadJournal line) = Unit {0}
+IsRefusal (BadSource line) = Unit {0}
+IsRefusal (BadElf why) = Unit {0}
 IsRefusal (TooLarge what size) = Unit {0}
 IsRefusal other = ⊥
 

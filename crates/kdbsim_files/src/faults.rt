@@ -1,7 +1,9 @@
 //! The status of each reader's refusal.
 
 use crate::Status;
+use asm_text::SourceFault;
 use atom_mach::ScriptFault;
+use elf_img::ElfFault;
 use img_text::ImageFault;
 use jrn_text::JournalFault;
 use plan_text::PlanFault;
@@ -78,6 +80,36 @@ impl From<JournalFault> for Status {
             JournalFault::Bad { line } => Status::BadJournal { line },
             JournalFault::TooLarge { what, size } => Status::TooLarge { what, size },
             JournalFault::OutOfMemory => Status::OutOfMemory,
+        }
+    }
+}
+
+impl From<SourceFault> for Status {
+    ghost use Rattle.std.specs.Prelude.{◌≡◌};
+    ghost use Rattle.kdbsim_files.specs.Faults.{status_of_source};
+
+    ghost from_gives = { λ f s. s ≡ status_of_source f };
+
+    fn from(fault: SourceFault) -> Status {
+        match fault {
+            SourceFault::Bad { line } => Status::BadSource { line },
+            SourceFault::TooLarge { what, size } => Status::TooLarge { what, size },
+            SourceFault::OutOfMemory => Status::OutOfMemory,
+        }
+    }
+}
+
+impl From<ElfFault> for Status {
+    ghost use Rattle.std.specs.Prelude.{◌≡◌};
+    ghost use Rattle.kdbsim_files.specs.Faults.{status_of_elf};
+
+    ghost from_gives = { λ f s. s ≡ status_of_elf f };
+
+    fn from(fault: ElfFault) -> Status {
+        match fault {
+            ElfFault::Bad(why) => Status::BadElf { why },
+            ElfFault::TooLarge { what, size } => Status::TooLarge { what, size },
+            ElfFault::OutOfMemory => Status::OutOfMemory,
         }
     }
 }

@@ -1,15 +1,21 @@
 //! Reads the files of a command.
-ghost use Rattle.std.specs.Prelude.{◌≡◌, ◌≤◌, length, IfOk, IfErr, MatchResult};
+ghost use Rattle.std.specs.Prelude.{◌≡◌, ◌≤◌, length, IfOk, IfErr, IsTrue, MatchResult};
 ghost use Rattle.io_edge.specs.Edge.{IsTold};
+ghost use Rattle.mem_map.specs.Parts.{segments_of};
+ghost use Rattle.img_text.specs.Reading.{has_text};
 ghost use Rattle.plan_text.specs.Ticks.{AreBelow, ticks_of};
-ghost use Rattle.kdbsim_files.specs.Files.{bytes_of_file, size_limit, image_file, map_file, script_file, plan_file, journal_file, FailsAtFile, FailsBefore, HasFile};
+ghost use Rattle.kdbsim_files.specs.Files.{bytes_of_file, size_limit, image_file, map_file, script_file, plan_file, journal_file, source_file, elf_file, FailsAtFile, FailsBefore, HasFile, IsLoaded};
 
 use crate::{File, Status};
+use asm_text::{a_source_is_what_its_lines_give, read_source};
 use atom_mach::{Script, check_script};
+use elf_img::{Loaded, read_elf};
 use img_text::{Image, read_image};
 use io_edge::{ReadFail, Shelf};
 use jrn_text::{Journal, read_journal};
-use mach_base::{IMAGE_BYTES, JOURNAL_BYTES, MAP_BYTES, PLAN_BYTES, SCRIPT_BYTES, What};
+use mach_base::{
+    ELF_BYTES, IMAGE_BYTES, JOURNAL_BYTES, MAP_BYTES, PLAN_BYTES, SCRIPT_BYTES, SOURCE_BYTES, What,
+};
 use plan_text::{Plan, read_plan};
 use std::alloc::Global;
 use sym_map::Symbols;
@@ -70,6 +76,29 @@ pub fn journal_input<F: Shelf>(alloc: Global, shelf: &mut F, name: &str) -> Resu
     Ok(read_journal(alloc, bytes.as_slice())?)
 }
 
+/// Reads the source of a name, finds what is wrong with it, and gives the image that it means.
+pub fn source_input<F: Shelf>(alloc: Global, shelf: &mut F, name: &str) -> Result<Image, Status>
+    ensures source { MatchResult result (HasFile (F.contents shelf.old) source_file name.now) (FailsAtFile (F.contents shelf.old) source_file name.now (F.faults shelf.old) (F.faults shelf.new)) }
+    ensures text { IfOk result (λ image. IsTrue (has_text (segments_of image.parts))) }
+    ensures kept { F.contents shelf.new ≡ F.contents shelf.old }
+    ensures count { F.faults shelf.old ≤ F.faults shelf.new }
+{
+    let bytes = read_input(alloc, shelf, File::Source, name)?;
+    a_source_is_what_its_lines_give();
+    Ok(read_source(alloc, bytes.as_slice())?)
+}
+
+/// Reads the executable of a name, finds what is wrong with it, and gives its image and the text of its map.
+pub fn elf_input<F: Shelf>(alloc: Global, shelf: &mut F, name: &str) -> Result<Loaded, Status>
+    ensures elf { MatchResult result (IsLoaded (F.contents shelf.old) name.now) (FailsAtFile (F.contents shelf.old) elf_file name.now (F.faults shelf.old) (F.faults shelf.new)) }
+    ensures text { IfOk result (λ loaded. IsTrue (has_text (segments_of loaded.image.parts))) }
+    ensures kept { F.contents shelf.new ≡ F.contents shelf.old }
+    ensures count { F.faults shelf.old ≤ F.faults shelf.new }
+{
+    let bytes = read_input(alloc, shelf, File::Elf, name)?;
+    Ok(read_elf(alloc, bytes.as_slice())?)
+}
+
 /// Reads a file of a name to its end, and refuses one that is too large.
 fn read_input<F: Shelf>(
     alloc: Global,
@@ -107,6 +136,8 @@ fn size_limit(file: File) -> usize
         File::Script => SCRIPT_BYTES,
         File::Plan => PLAN_BYTES,
         File::Journal => JOURNAL_BYTES,
+        File::Source => SOURCE_BYTES,
+        File::Elf => ELF_BYTES,
     }
 }
 
@@ -120,5 +151,7 @@ fn bytes_of_file(file: File) -> What
         File::Script => What::ScriptBytes,
         File::Plan => What::PlanBytes,
         File::Journal => What::JournalBytes,
+        File::Source => What::SourceBytes,
+        File::Elf => What::ElfBytes,
     }
 }

@@ -1,8 +1,9 @@
 ghost use Rattle.std.specs.Prelude.{◌≡◌, ◌++◌, [], IfOk, OnOk, codes};
 ghost use Rattle.mach_base.specs.Number.{dec_text};
-ghost use Rattle.kdbsim_files.specs.Report.{file_name, why_name, what_name, words_of_status, line_of, code_of};
+ghost use Rattle.kdbsim_files.specs.Report.{file_name, why_name, elf_why_name, what_name, words_of_status, line_of, code_of};
 
 use crate::status::{File, Status};
+use elf_img::ElfWhy;
 use img_text::Why;
 use mach_base::{OutOfMemory, Text, What, push_dec};
 use std::alloc::Global;
@@ -12,7 +13,7 @@ pub fn status_code(status: &Status) -> u8
     ensures { result ≡ code_of status.now }
 {
     match status {
-        Status::Done(_) => 0,
+        Status::Done(_) | Status::Made => 0,
         Status::Usage => 2,
         Status::ReadFault(_) => 3,
         Status::BadImage { .. } => 4,
@@ -24,10 +25,12 @@ pub fn status_code(status: &Status) -> u8
         Status::BadStep { .. } => 10,
         Status::WriteFault => 11,
         Status::OutOfMemory => 12,
+        Status::BadSource { .. } => 14,
+        Status::BadElf { .. } => 15,
     }
 }
 
-/// The line that the program prints for a status other than Done, without its end; empty for Done.
+/// The line that the program prints for a status other than Done, without its end; empty for Done and Made.
 pub fn status_line(alloc: Global, status: &Status) -> Result<Text, OutOfMemory>
     ensures { IfOk result (λ line. line ≡ line_of status.now) }
 {
@@ -48,7 +51,7 @@ fn push_line(out: &mut Vec<u8>, status: Status) -> Result<(), OutOfMemory>
     requires { out.old.items ≡ [] }
     ensures { OnOk result (out.new.items ≡ line_of status) }
 {
-    if matches!(status, Status::Done(_)) {
+    if matches!(status, Status::Done(_) | Status::Made) {
         return Ok(());
     }
     push(out, "kdbsim: ")?;
@@ -61,7 +64,7 @@ fn push_words(out: &mut Vec<u8>, status: Status) -> Result<(), OutOfMemory>
     ensures { OnOk result (out.new.items ≡ out.old.items ++ words_of_status status) }
 {
     match status {
-        Status::Done(_) => Ok(()),
+        Status::Done(_) | Status::Made => Ok(()),
         Status::Usage => push(out, "usage"),
         Status::ReadFault(file) => push_two(out, "cannot read ", file_name(file)),
         Status::BadImage { line, why } => push_numbered(
@@ -74,6 +77,8 @@ fn push_words(out: &mut Vec<u8>, status: Status) -> Result<(), OutOfMemory>
         Status::BadScript { line } => push_number(out, "bad script, line ", line),
         Status::BadPlan { line } => push_number(out, "bad plan, line ", line),
         Status::BadJournal { line } => push_number(out, "bad journal, line ", line),
+        Status::BadSource { line } => push_number(out, "bad source, line ", line),
+        Status::BadElf { why } => push_two(out, "bad elf, ", elf_why_name(why)),
         Status::TooLarge { what, size } => push_sized(out, what_name(what), size),
         Status::BadStep { index } => push_number(out, "bad step ", index),
         Status::WriteFault => push(out, "cannot write"),
@@ -131,6 +136,8 @@ fn file_name(file: File) -> &'static str
         File::Script => "script",
         File::Plan => "plan",
         File::Journal => "journal",
+        File::Source => "source",
+        File::Elf => "elf",
     }
 }
 
@@ -146,6 +153,24 @@ fn why_name(why: Why) -> &'static str
         Why::Overrun => "overrun",
         Why::Hart => "hart",
         Why::NoText => "notext",
+    }
+}
+
+fn elf_why_name(why: ElfWhy) -> &'static str
+    ensures { result.now ≡ elf_why_name why }
+{
+    match why {
+        ElfWhy::Short => "short",
+        ElfWhy::Magic => "magic",
+        ElfWhy::FileType => "filetype",
+        ElfWhy::Machine => "machine",
+        ElfWhy::Compressed => "compressed",
+        ElfWhy::HeaderSize => "headersize",
+        ElfWhy::Dynamic => "dynamic",
+        ElfWhy::Bounds => "bounds",
+        ElfWhy::WriteExec => "writeexec",
+        ElfWhy::Order => "order",
+        ElfWhy::NoText => "notext",
     }
 }
 

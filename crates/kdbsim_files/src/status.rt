@@ -1,3 +1,4 @@
+use elf_img::ElfWhy;
 use img_text::Why;
 use mach_base::{Ending, What};
 
@@ -9,6 +10,8 @@ pub enum File {
     Script,
     Plan,
     Journal,
+    Source,
+    Elf,
 }
 
 /// The answer of a call (README.md, "Exit codes").
@@ -16,6 +19,8 @@ pub enum File {
 pub enum Status {
     /// The run has ended so, and its transcript is out.
     Done(Ending),
+    /// The files that the command makes are written.
+    Made,
     /// The words ask for nothing that there is.
     Usage,
     /// The shelf failed at this file.
@@ -30,6 +35,10 @@ pub enum Status {
     BadPlan { line: u64 },
     /// This line of the journal, from 1, is the first that is faulty.
     BadJournal { line: u64 },
+    /// This line of the source, from 1, is the first that is faulty.
+    BadSource { line: u64 },
+    /// This is the first thing that is wrong with the executable.
+    BadElf { why: ElfWhy },
     /// A size or a count is over its limit.
     TooLarge { what: What, size: u64 },
     /// This entry of the journal, from 0, is the first that isn't legal.

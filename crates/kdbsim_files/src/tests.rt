@@ -1,4 +1,5 @@
 use super::*;
+use elf_img::ElfWhy;
 use img_text::Why;
 use io_edge::{MemShelf, Named};
 use mach_base::{Ending, Text, What};
@@ -30,12 +31,16 @@ fn refusal(
         File::Script => script_input(alloc, shelf, "f").err(),
         File::Plan => plan_input(alloc, shelf, "f", 2).err(),
         File::Journal => journal_input(alloc, shelf, "f").err(),
+        File::Source => source_input(alloc, shelf, "f").err(),
+        File::Elf => elf_input(alloc, shelf, "f").err(),
     })
 }
 
 const IMAGE: &[u8] = b"kimg 1\ntext 0x1000 8\n";
 
 const JOURNAL: &[u8] = b"kjrn 1 harts 2 steps 10\nS 0\n";
+
+const SOURCE: &[u8] = b"kasm 1\ntext 0x1000 8\nhere:\njal zero, here\n";
 
 #[test]
 fn files_are_read_or_refused(rt: HostRuntime) -> Result<(), Fail> {
@@ -67,6 +72,17 @@ fn files_are_read_or_refused(rt: HostRuntime) -> Result<(), Fail> {
             b"kjrn 1 harts 2 steps 010\n",
             Some(Status::BadJournal { line: 1 }),
         ),
+        (File::Source, SOURCE, None),
+        (
+            File::Source,
+            b"kasm 1\ntext 0x1000 8\nhere:\naddi a0, zero, 4096\n",
+            Some(Status::BadSource { line: 4 }),
+        ),
+        (
+            File::Elf,
+            b"\x7fELF",
+            Some(Status::BadElf { why: ElfWhy::Short }),
+        ),
     ] {
         assert!(rt; refusal(rt.alloc(), file, bytes, 1)? == want);
         assert!(rt; refusal(rt.alloc(), file, bytes, 0)? == Some(Status::ReadFault(file)));
@@ -90,7 +106,9 @@ fn statuses_have_their_lines(rt: HostRuntime) -> Result<(), Fail> {
     let what = What::Lines;
     for (status, code, line) in [
         (Status::Done(Ending::AllHalted), 0, ""),
+        (Status::Made, 0, ""),
         (Status::Usage, 2, "kdbsim: usage"),
+        (Status::ReadFault(File::Elf), 3, "kdbsim: cannot read elf"),
         (Status::ReadFault(File::Plan), 3, "kdbsim: cannot read plan"),
         (
             Status::BadImage { line: 2, why },
@@ -117,6 +135,18 @@ fn statuses_have_their_lines(rt: HostRuntime) -> Result<(), Fail> {
         (Status::BadStep { index: 0 }, 10, "kdbsim: bad step 0"),
         (Status::WriteFault, 11, "kdbsim: cannot write"),
         (Status::OutOfMemory, 12, "kdbsim: out of memory"),
+        (
+            Status::BadSource { line: 4 },
+            14,
+            "kdbsim: bad source, line 4",
+        ),
+        (
+            Status::BadElf {
+                why: ElfWhy::HeaderSize,
+            },
+            15,
+            "kdbsim: bad elf, headersize",
+        ),
     ] {
         assert_eq!(rt; status_code(&status), code);
         let told = status_line(rt.alloc(), &status)?;

@@ -8,8 +8,8 @@ use Rattle.std.proofs.lemmas.Slice.Eq.{bytes_eq-Decides}
 use Rattle.clap.proofs.WalkLemmas.{both}
 use Rattle.program_words.specs.Words.{Text, Parameter, Row, Item, operand, option, Argument, argument, arguments, arguments_of, items, fits, is_given, is_number_in, operands_after, parameter_of, value_of, with_argument}
 use Rattle.mach_base.specs.declared.limits.TheConstants.{MOST_HARTS, MOST_ROUNDS, MOST_STEPS}
-use Rattle.program_words.specs.Rows.{command_rows, load_row, lockstep_row, replay_row, run_row, uni_row}
-use Rattle.program_words.specs.Commands.{Request, Values, command, load, lockstep, number_or, number_to, options_of, replay, request_from, run, uni}
+use Rattle.program_words.specs.Rows.{asm_row, command_rows, elf_row, load_row, lockstep_row, replay_row, run_row, uni_row}
+use Rattle.program_words.specs.Commands.{Request, Values, asm, command, elf, load, lockstep, number_or, number_to, options_of, replay, request_from, run, uni}
 use Rattle.program_words.specs.Laws.{AreWithin, IsWithin, RequestsAreWithin}
 use Rattle.program_words.proofs.RowRules.{bytes_eq-same, or_false}
 
@@ -165,6 +165,15 @@ lockstep_within given r all e =
     (λ plan. with_value_within (argument (codes "journal") given) _ r
     (λ journal. made_within (command (lockstep image map script plan journal (options_of (λ name. argument name given)))) r options))))) e
 
+asm_within : IsRowWithin asm_row
+asm_within given r all e =
+    with_value_within (argument (codes "source") given) _ r (λ source. with_value_within (argument (codes "image") given) _ r (λ image. made_within (command (asm source image)) r tt)) e
+
+elf_within : IsRowWithin elf_row
+elf_within given r all e =
+    with_value_within (argument (codes "elf") given) _ r (λ executable. with_value_within (argument (codes "image") given) _ r
+    (λ image. with_value_within (argument (codes "map") given) _ r (λ map. made_within (command (elf executable image map)) r tt))) e
+
 number_fits : (given : List Argument) (t : Text) → all_fit load_row given ≡ true → argument (codes "number") given ≡ Some t → is_number_in 0 4294967295 t ≡ true
 number_fits given t all e = sym (or_false _) ∙ (sym (or_false _) ∙ argument_fits load_row given (codes "number") t all e)
 
@@ -192,10 +201,12 @@ none_within word row found = absurd (cc)
 
 rows_within : (word : Text) (row : Row) → find (λ r. bytes_eq r.word word) command_rows ≡ Some row → IsRowWithin row
 rows_within =
-    more_within uni_row (replay_row ∷ run_row ∷ lockstep_row ∷ load_row ∷ []) uni_within
-    (more_within replay_row (run_row ∷ lockstep_row ∷ load_row ∷ []) replay_within
-    (more_within run_row (lockstep_row ∷ load_row ∷ []) run_within
-    (more_within lockstep_row (load_row ∷ []) lockstep_within (more_within load_row [] load_within none_within))))
+    more_within uni_row (replay_row ∷ run_row ∷ lockstep_row ∷ asm_row ∷ elf_row ∷ load_row ∷ []) uni_within
+    (more_within replay_row (run_row ∷ lockstep_row ∷ asm_row ∷ elf_row ∷ load_row ∷ []) replay_within
+    (more_within run_row (lockstep_row ∷ asm_row ∷ elf_row ∷ load_row ∷ []) run_within
+    (more_within lockstep_row (asm_row ∷ elf_row ∷ load_row ∷ []) lockstep_within
+    (more_within asm_row (elf_row ∷ load_row ∷ []) asm_within
+    (more_within elf_row (load_row ∷ []) elf_within (more_within load_row [] load_within none_within))))))
 
 given_within : (row : Row) (words : List Text) (r : Request) → IsRowWithin row
     → option_and_then (λ (q : Row × List Argument). request_from q.0 q.1) (option_map (λ (g : List Argument). (row, g)) (arguments_of row words)) ≡ Some r → IsWithin r

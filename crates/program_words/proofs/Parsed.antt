@@ -21,7 +21,7 @@ use Rattle.clap.specs.declared.parser.matches.SubCommand.{SubCommand}
 use Rattle.clap.specs.declared.parser.matches.ArgMatches.TheViews.{out-ArgMatches, out-SubCommand}
 use Rattle.clap.proofs.WalkLemmas.{both}
 use Rattle.program_words.specs.Words.{Text, Parameter, Row, Argument, argument, row_and_arguments}
-use Rattle.program_words.specs.Rows.{command_rows, uni_row, replay_row, run_row, lockstep_row, load_row}
+use Rattle.program_words.specs.Rows.{command_rows, uni_row, replay_row, run_row, lockstep_row, asm_row, elf_row, load_row}
 use Rattle.program_words.specs.Commands.{Request, request_from, request_of, request_with}
 use Rattle.program_words.specs.Parser.{program, row_of, rows, rows_of_words}
 use Rattle.program_words.specs.Views.{request_in}
@@ -80,6 +80,12 @@ run_sound = sound run_row (omega arith) refl refl refl
 lockstep_sound : IsSound lockstep_row
 lockstep_sound = sound lockstep_row (omega arith) refl refl refl
 
+asm_sound : IsSound asm_row
+asm_sound = sound asm_row (omega arith) refl refl refl
+
+elf_sound : IsSound elf_row
+elf_sound = sound elf_row (omega arith) refl refl refl
+
 load_sound : IsSound load_row
 load_sound = sound load_row (omega arith) refl refl refl
 
@@ -95,10 +101,12 @@ none_sound word row found = absurd (cc)
 
 rows_sound : AreSound command_rows
 rows_sound =
-    more_sound uni_row (replay_row ∷ run_row ∷ lockstep_row ∷ load_row ∷ []) uni_sound
-    (more_sound replay_row (run_row ∷ lockstep_row ∷ load_row ∷ []) replay_sound
-    (more_sound run_row (lockstep_row ∷ load_row ∷ []) run_sound
-    (more_sound lockstep_row (load_row ∷ []) lockstep_sound (more_sound load_row [] load_sound none_sound))))
+    more_sound uni_row (replay_row ∷ run_row ∷ lockstep_row ∷ asm_row ∷ elf_row ∷ load_row ∷ []) uni_sound
+    (more_sound replay_row (run_row ∷ lockstep_row ∷ asm_row ∷ elf_row ∷ load_row ∷ []) replay_sound
+    (more_sound run_row (lockstep_row ∷ asm_row ∷ elf_row ∷ load_row ∷ []) run_sound
+    (more_sound lockstep_row (asm_row ∷ elf_row ∷ load_row ∷ []) lockstep_sound
+    (more_sound asm_row (elf_row ∷ load_row ∷ []) asm_sound
+    (more_sound elf_row (load_row ∷ []) elf_sound (more_sound load_row [] load_sound none_sound))))))
 
 -- ---- the parser
 

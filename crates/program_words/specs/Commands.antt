@@ -1,5 +1,5 @@
 -- What the words ask for.
-use Rattle.std.specs.Prelude.{ℕ, List, codes, Option, Some, None, option_map, option_and_then, unwrap_or, if◌then◌else◌}
+use Rattle.std.specs.Prelude.{ℕ, Bool, true, not, List, codes, Option, Some, None, option_map, option_and_then, unwrap_or, if◌then◌else◌}
 use Rattle.std.specs.Str.{bytes_eq}
 use Rattle.std.specs.Str.Parse.{digits_value, without_leading_plus}
 use Rattle.program_words.specs.declared.request.Options.{Options}
@@ -12,6 +12,8 @@ pub data Command : Type 0 where
   replay : Text → Text → Text → Text → Command
   run : Text → Text → Text → Text → Options → Command
   lockstep : Text → Text → Text → Text → Text → Options → Command
+  asm : Text → Text → Command
+  elf : Text → Text → Text → Command
 
 -- what the words ask for: a command that is built, or one that is to come
 pub data Request : Type 0 where
@@ -61,6 +63,14 @@ lockstep_from values numbers =
     (λ script. with_value values (codes "plan") (λ plan. with_value values (codes "journal")
     (λ journal. Some (command (lockstep image map script plan journal (options_of numbers))))))))
 
+abbrev pub asm_from : Values → Option Request
+asm_from values = with_value values (codes "source") (λ source. with_value values (codes "image") (λ image. Some (command (asm source image))))
+
+abbrev pub elf_from : Values → Option Request
+elf_from values =
+    with_value values (codes "elf") (λ executable. with_value values (codes "image") (λ image. with_value values (codes "map")
+    (λ map. Some (command (elf executable image map)))))
+
 abbrev pub load_from : Values → Option Request
 load_from numbers = option_map (λ n. load n) (option_and_then (number_to 18446744073709551615) (numbers (codes "number")))
 
@@ -71,6 +81,8 @@ request_with word values numbers =
     else if bytes_eq word (codes "replay") then replay_from values
     else if bytes_eq word (codes "run") then run_from values numbers
     else if bytes_eq word (codes "lockstep") then lockstep_from values numbers
+    else if bytes_eq word (codes "asm") then asm_from values
+    else if bytes_eq word (codes "elf") then elf_from values
     else if bytes_eq word (codes "load") then load_from numbers
     else None
 
@@ -82,11 +94,17 @@ request_from row given = request_with row.word (λ name. argument name given) (�
 abbrev pub request_of : List Text → Option Request
 request_of words = option_and_then (λ r. request_from r.0 r.1) (row_and_arguments command_rows words)
 
--- a request for a command that is built
+-- whether a command has a name of its own for each file that it writes: elf writes an image and a map
+abbrev pub writes_apart : Command → Bool
+writes_apart (elf executable image map) = not (bytes_eq image map)
+writes_apart other = true
+
+-- a request for a command that is built, and has a name for each file that it writes
 abbrev pub built : Request → Option Command
-built (command c) = Some c
+built (command c) = if writes_apart c then Some c else None
 built _ = None
 
--- The command that the words ask for: where there is none, they are no use of the program.
+-- The command that the words ask for: where there is none, they are no use of the program. Words that name one file for
+-- both files that a command writes ask for none.
 abbrev pub command_of : List Text → Option Command
 command_of words = option_and_then built (request_of words)

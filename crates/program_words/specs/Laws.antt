@@ -6,7 +6,7 @@ use Rattle.program_words.specs.Words.{Text, Kind, plain, kind, Parameter, Row, I
 use Rattle.program_words.specs.Rows.{command_rows}
 use Rattle.mach_base.specs.declared.limits.TheConstants.{MOST_HARTS, MOST_ROUNDS, MOST_STEPS}
 use Rattle.program_words.specs.declared.request.Options.{Options}
-use Rattle.program_words.specs.Commands.{Command, uni, replay, run, lockstep, command_of, Request, command, load, request_of}
+use Rattle.program_words.specs.Commands.{Command, uni, replay, run, lockstep, asm, elf, command_of, Request, command, load, request_of}
 
 -- the option of this name
 abbrev option_of : Row → Text → Option Parameter
@@ -64,6 +64,8 @@ IsCommandWithin (uni image script) = Unit {0}
 IsCommandWithin (replay image map script journal) = Unit {0}
 IsCommandWithin (run image map script journal options) = AreWithin options
 IsCommandWithin (lockstep image map script plan journal options) = AreWithin options
+IsCommandWithin (asm source image) = Unit {0}
+IsCommandWithin (elf executable image map) = Unit {0}
 
 -- the numbers of a request are within their bounds
 abbrev pub IsWithin : Request → Type 0

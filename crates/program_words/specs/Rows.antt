@@ -43,9 +43,17 @@ lockstep_row = record {
   options = run_options;
 }
 
+-- asm SOURCE IMAGE
+abbrev pub asm_row : Row
+asm_row = record { word = codes "asm"; operands = file (codes "source") ∷ file (codes "image") ∷ []; options = [] }
+
+-- elf ELF IMAGE MAP
+abbrev pub elf_row : Row
+elf_row = record { word = codes "elf"; operands = file (codes "elf") ∷ file (codes "image") ∷ file (codes "map") ∷ []; options = [] }
+
 -- load NUMBER
 abbrev pub load_row : Row
 load_row = record { word = codes "load"; operands = between (codes "number") 0 4294967295 ∷ []; options = [] }
 
 abbrev pub command_rows : List Row
-command_rows = uni_row ∷ replay_row ∷ run_row ∷ lockstep_row ∷ load_row ∷ []
+command_rows = uni_row ∷ replay_row ∷ run_row ∷ lockstep_row ∷ asm_row ∷ elf_row ∷ load_row ∷ []

@@ -6,13 +6,15 @@ use Rattle.program_words.specs.declared.request.Command.{Command as Made}
 use Rattle.program_words.specs.declared.request.Command.TheVariants as made
 use Rattle.program_words.specs.declared.request.Request.{Request as Asked}
 use Rattle.program_words.specs.declared.request.Request.TheVariants as asked
-use Rattle.program_words.specs.Commands.{Command, uni, replay, Request, command, run, lockstep, load, request_with}
+use Rattle.program_words.specs.Commands.{Command, uni, replay, Request, command, run, lockstep, asm, elf, load, request_with}
 
 abbrev pub command_view : Made → Command
 command_view (made.Uni image script) = uni image.now script.now
 command_view (made.Replay image map script journal) = replay image.now map.now script.now journal.now
 command_view (made.Run image map script journal options) = run image.now map.now script.now journal.now options
 command_view (made.Lockstep image map script plan journal options) = lockstep image.now map.now script.now plan.now journal.now options
+command_view (made.Asm source image) = asm source.now image.now
+command_view (made.Elf executable image map) = elf executable.now image.now map.now
 
 abbrev pub request_view : Asked → Request
 request_view (asked.Built c) = command (command_view c)

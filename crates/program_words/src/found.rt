@@ -1,6 +1,6 @@
 ghost use Rattle.std.specs.Prelude.{◌≡◌, codes, option_and_then};
 ghost use Rattle.std.specs.Option.{option_map};
-ghost use Rattle.program_words.specs.Commands.{load_from, lockstep_from, number_or, number_to, options_of, replay_from, request_with, run_from, uni_from};
+ghost use Rattle.program_words.specs.Commands.{asm_from, elf_from, load_from, lockstep_from, number_or, number_to, options_of, replay_from, request_with, run_from, uni_from};
 ghost use Rattle.program_words.specs.Parser.{numbers_in, values_in};
 ghost use Rattle.program_words.specs.Views.{request_view};
 
@@ -16,6 +16,8 @@ pub(crate) fn request<'a>(word: &str, found: &ArgMatches<'a>) -> Option<Request<
         "replay" => replay(found),
         "run" => run(found),
         "lockstep" => lockstep(found),
+        "asm" => asm(found),
+        "elf" => elf(found),
         "load" => load(found),
         _ => None,
     }
@@ -75,6 +77,27 @@ fn lockstep<'a>(found: &ArgMatches<'a>) -> Option<Request<'a>>
         plan,
         journal,
         options: options(found),
+    }))
+}
+
+fn asm<'a>(found: &ArgMatches<'a>) -> Option<Request<'a>>
+    ensures { option_map request_view result ≡ asm_from (values_in found.now) }
+{
+    let source = value(found, "source")?;
+    let image = value(found, "image")?;
+    Some(Request::Built(Command::Asm { source, image }))
+}
+
+fn elf<'a>(found: &ArgMatches<'a>) -> Option<Request<'a>>
+    ensures { option_map request_view result ≡ elf_from (values_in found.now) }
+{
+    let executable = value(found, "elf")?;
+    let image = value(found, "image")?;
+    let map = value(found, "map")?;
+    Some(Request::Built(Command::Elf {
+        executable,
+        image,
+        map,
     }))
 }
 

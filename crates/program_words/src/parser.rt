@@ -1,6 +1,6 @@
 ghost use Rattle.std.specs.Prelude.{◌≡◌, IfOk, map};
 ghost use Rattle.program_words.specs.Parser.{HasCommand, HasRules, IsParser, IsRow, option_rule, program, program_settings};
-ghost use Rattle.program_words.specs.Rows.{command_rows, load_row, lockstep_row, replay_row, run_options, run_row, uni_row};
+ghost use Rattle.program_words.specs.Rows.{asm_row, command_rows, elf_row, load_row, lockstep_row, replay_row, run_options, run_row, uni_row};
 
 use crate::arguments::{with_file, with_number, with_option};
 use mach_base::{MOST_HARTS, MOST_ROUNDS, MOST_STEPS};
@@ -51,6 +51,25 @@ fn lockstep<'a>(alloc: Global) -> Result<clap::Command<'a>, AllocError>
     with_run_options(command, alloc)
 }
 
+/// `asm SOURCE IMAGE`
+fn asm<'a>(alloc: Global) -> Result<clap::Command<'a>, AllocError>
+    ensures { IfOk result (IsRow asm_row) }
+{
+    let command = clap::Command::new(alloc, "asm");
+    let command = with_file(command, alloc, "source")?;
+    with_file(command, alloc, "image")
+}
+
+/// `elf ELF IMAGE MAP`
+fn elf<'a>(alloc: Global) -> Result<clap::Command<'a>, AllocError>
+    ensures { IfOk result (IsRow elf_row) }
+{
+    let command = clap::Command::new(alloc, "elf");
+    let command = with_file(command, alloc, "elf")?;
+    let command = with_file(command, alloc, "image")?;
+    with_file(command, alloc, "map")
+}
+
 /// `load NUMBER`
 fn load<'a>(alloc: Global) -> Result<clap::Command<'a>, AllocError>
     ensures { IfOk result (IsRow load_row) }
@@ -80,6 +99,8 @@ pub(crate) fn program<'a>(alloc: Global) -> Result<clap::Command<'a>, AllocError
     let program = with_row(program, replay(alloc)?)?;
     let program = with_row(program, run(alloc)?)?;
     let program = with_row(program, lockstep(alloc)?)?;
+    let program = with_row(program, asm(alloc)?)?;
+    let program = with_row(program, elf(alloc)?)?;
     with_row(program, load(alloc)?)
 }
 

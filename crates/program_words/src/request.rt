@@ -41,6 +41,17 @@ pub enum Command<'a> {
         journal: &'a str,
         options: Options,
     },
+    /// `asm SOURCE IMAGE`: the image that the source means is written.
+    Asm {
+        source: &'a str,
+        image: &'a str,
+    },
+    /// `elf ELF IMAGE MAP`: the image and the map of the executable are written, under two names.
+    Elf {
+        executable: &'a str,
+        image: &'a str,
+        map: &'a str,
+    },
 }
 
 /// What right words ask for: a command that is built, or one that is to come.

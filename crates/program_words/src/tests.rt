@@ -31,6 +31,12 @@ fn words_are_commands_or_a_wrong_use(rt: HostRuntime) -> Result<(), Fail> {
         ("run a b c d --harts 17", (false, false)),
         ("run a b c d --harts 2 --harts=2", (false, false)),
         ("lockstep --harts=+02 a b - d -- --e", (true, true)),
+        ("asm a b", (true, true)),
+        ("asm a", (false, false)),
+        ("elf a b c", (true, true)),
+        ("elf a a b", (true, true)),
+        ("elf a b b", (false, true)),
+        ("elf a b c d", (false, false)),
         ("load 4294967295", (false, true)),
         ("load 4294967296", (false, false)),
     ] {

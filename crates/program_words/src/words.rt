@@ -1,8 +1,8 @@
-ghost use Rattle.std.specs.Prelude.{◌≡◌, Some, None, map, IfOk, IfErr};
+ghost use Rattle.std.specs.Prelude.{◌≡◌, true, Some, None, map, IfOk, IfErr};
 ghost use Rattle.std.specs.Option.{option_map};
 ghost use Rattle.std.specs.String.{string_bytes};
 ghost use Rattle.clap.specs.Words.{kind_of};
-ghost use Rattle.program_words.specs.Commands.{command_of, request_of};
+ghost use Rattle.program_words.specs.Commands.{command_of, request_of, writes_apart};
 ghost use Rattle.program_words.specs.Laws.{IsCommandWithin};
 ghost use Rattle.program_words.specs.Views.{command_view, request_in, request_view};
 ghost use Rattle.program_words.specs.declared.request.WordsFault.TheVariants.{Usage};
@@ -16,16 +16,33 @@ use clap::error::ErrorKind;
 use std::alloc::Global;
 
 /// The command that the words ask for. Usage comes where they ask for none that is built: no words, another word, too few
-/// or too many operands, an option that the command lacks or that comes twice, a number that is none or out of bounds.
+/// or too many operands, an option that the command lacks or that comes twice, a number that is none or out of bounds, one
+/// name for both files that `elf` writes.
 pub fn command_of(words: &[String], alloc: Global) -> Result<Command<'_>, WordsFault>
     ensures ok { IfOk result (λ c. command_of (map string_bytes words.now) ≡ Some (command_view c)) }
     ensures within { IfOk result (λ c. IsCommandWithin (command_view c)) }
+    ensures apart { IfOk result (λ c. writes_apart (command_view c) ≡ true) }
     ensures usage { IfErr result (λ e. e ≡ Usage → command_of (map string_bytes words.now) ≡ None) }
 {
     requests_are_within_bounds();
     match request_of(words, alloc)? {
-        Request::Built(command) => Ok(command),
+        Request::Built(command) => {
+            if !writes_apart(command) {
+                return Err(WordsFault::Usage);
+            }
+            Ok(command)
+        }
         Request::Load { .. } => Err(WordsFault::Usage),
+    }
+}
+
+/// Whether the command has a name of its own for each file that it writes.
+fn writes_apart(command: Command<'_>) -> bool
+    ensures { result ≡ writes_apart (command_view command.entry) }
+{
+    match command {
+        Command::Elf { image, map, .. } => image != map,
+        _ => true,
     }
 }
 
