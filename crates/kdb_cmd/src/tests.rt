@@ -4,11 +4,23 @@ ghost use Rattle.mach_base.specs.Masks.{has_bit};
 use super::*;
 use hart_ctx::Context;
 use mach_base::{Hart, OutOfMemory, Text};
-use std::alloc::Global;
+use std::alloc::{AllocError, Global};
 use std::process::Abort;
 use std::test::Fail;
 use sym_map::Symbols;
 use test_memory::ByteList;
+
+/// The symbols `start` and `face`.
+const SYMBOLS: &[u8] = b"0000000000001000 T start\n0000000000002000 D face\n";
+
+/// Memory up to 0x2020, with two words at 0x2000.
+fn memory(alloc: Global) -> Result<ByteList, AllocError> {
+    let mut bytes = vec![in alloc; 0; 0x2000]?;
+    bytes.extend_from_slice(b"\x88\x77\x66\x55\x44\x33\x22\x11")?;
+    bytes.extend_from_slice(b"\x41\0\0\0\0\0\0\0")?;
+    bytes.extend_from_slice(&[0; 16])?;
+    Ok(ByteList::new(bytes))
+}
 
 /// A session of a machine with two processors, entered on processor 0.
 #[derive(Drop)]
@@ -21,28 +33,13 @@ struct Bench {
 }
 
 impl Bench {
-    /// Memory up to 0x2020, with two words at 0x2000, and the symbols `start` and `face`.
+    /// The session after its start.
     #[tactic(auto, using(crate::proofs::Gathered::first_of_two))]
     fn new(alloc: Global) -> Result<Bench, Fail> {
-        let mut bytes = Vec::new(alloc);
-        for _i in 0..0x2000u32 {
-            bytes.push(0)?;
-        }
-        for byte in [
-            0x88, 0x77, 0x66, 0x55, 0x44, 0x33, 0x22, 0x11, 0x41, 0, 0, 0, 0, 0, 0, 0,
-        ] {
-            bytes.push(byte)?;
-        }
-        for _i in 0..16u8 {
-            bytes.push(0)?;
-        }
         let kdb = Kdb::new(alloc)?;
-        let names = Symbols::read(
-            alloc,
-            b"0000000000001000 T start\n0000000000002000 D face\n",
-        )?;
+        let names = Symbols::read(alloc, SYMBOLS)?;
         Ok(Bench {
-            mem: ByteList::new(bytes),
+            mem: memory(alloc)?,
             ctxs: [Context::new(0x1000, 0); 2],
             kdb,
             names,
@@ -67,8 +64,8 @@ impl Bench {
 /// A line, and what it prints.
 type Row = (&'static [u8], &'static [u8]);
 
-/// Lines about memory, variables and breakpoints; numbers are hexadecimal until RADIX is set.
-static MEMORY: [Row; 32] = [
+/// Lines about memory; numbers are hexadecimal until RADIX is set.
+static MEMORY: [Row; 18] = [
     (b"md1c1 face", b"0x0000000000002000 88  .\n"),
     (b"set RADIX=10", b""),
     (
@@ -99,6 +96,10 @@ static MEMORY: [Row; 32] = [
         b"mm1 3000 100",
         b"diag: 12: bad address 0x0000000000003000\n",
     ),
+];
+
+/// Lines about registers, variables and breakpoints.
+static PLACES: [Row; 14] = [
     (b"rm ra face+8", b"ra = 0x0000000000002008\n"),
     (b"rm zero 1", b"diag: 10: bad register zero\n"),
     (b"rd | grep pc", b"  pc: 0000000000001000\n"),
@@ -157,7 +158,11 @@ static FRAMES: [Row; 13] = [
 ];
 
 /// A macro that leaves, and one whose line calls it.
-static MACROS: [Row; 13] = [
+static MACROS: [Row; 14] = [
+    (
+        b"mm2 2007 abcd",
+        b"0x0000000000002007 = 0x000000000000abcd\n",
+    ),
     (b"defcmd w", b""),
     (b"md1c1 face+8", b""),
     (b"go", b""),
@@ -176,45 +181,86 @@ static MACROS: [Row; 13] = [
     (b"defcmd md4c0", b"diag: 19: reserved name md4c0\n"),
 ];
 
-/// Each line prints the text beside it, and the session goes on.
-fn lines_print(
-    rt: &impl Abort,
-    alloc: Global,
-    bench: &mut Bench,
-    rows: &[Row],
-) -> Result<(), Fail> {
-    for row in rows {
-        let (line, text) = *row;
-        let said = bench.line(alloc, line)?;
-        assert_eq!(rt; said.text.as_bytes(), text);
-        assert_eq!(rt; said.outcome, Outcome::Stay);
+/// Whether the line prints this text, and the session goes on.
+fn prints(alloc: Global, bench: &mut Bench, line: &[u8], text: &[u8]) -> Result<bool, OutOfMemory> {
+    let said = bench.line(alloc, line)?;
+    Ok(said.text.as_bytes() == text && said.outcome == Outcome::Stay)
+}
+
+/// How many rows hold before the first that doesn't.
+fn rows_that_hold(alloc: Global, bench: &mut Bench, rows: &[Row]) -> Result<usize, OutOfMemory> {
+    for (i, row) in rows.iter().enumerate() {
+        if !prints(alloc, bench, row.0, row.1)? {
+            return Ok(i);
+        }
     }
+    Ok(rows.len())
+}
+
+/// All rows hold, in a session of their own.
+fn rows_hold(rt: &impl Abort, alloc: Global, rows: &[Row]) -> Result<(), Fail> {
+    let mut bench = Bench::new(alloc)?;
+    assert_eq!(rt; rows_that_hold(alloc, &mut bench, rows)?, rows.len());
     Ok(())
 }
 
 #[test]
-fn each_line_prints_its_text(rt: HostRuntime) -> Result<(), Fail> {
-    let mut bench = Bench::new(rt.alloc())?;
-    lines_print(&rt, rt.alloc(), &mut bench, &MEMORY)?;
-    lines_print(&rt, rt.alloc(), &mut bench, &MACROS)?;
-    lines_print(&rt, rt.alloc(), &mut bench, &FRAMES)
+fn lines_about_memory_print(rt: HostRuntime) -> Result<(), Fail> {
+    rows_hold(&rt, rt.alloc(), &MEMORY)
+}
+
+#[test]
+fn lines_about_registers_and_breakpoints_print(rt: HostRuntime) -> Result<(), Fail> {
+    rows_hold(&rt, rt.alloc(), &PLACES)
+}
+
+#[test]
+fn lines_about_macros_print(rt: HostRuntime) -> Result<(), Fail> {
+    rows_hold(&rt, rt.alloc(), &MACROS)
+}
+
+#[test]
+fn lines_about_frames_print(rt: HostRuntime) -> Result<(), Fail> {
+    rows_hold(&rt, rt.alloc(), &FRAMES)
+}
+
+/// What the session does after this line.
+fn outcome_of(alloc: Global, bench: &mut Bench, line: &[u8]) -> Result<Outcome, OutOfMemory> {
+    let said = bench.line(alloc, line)?;
+    Ok(said.outcome)
 }
 
 #[test]
 fn a_line_leaves_the_session(rt: HostRuntime) -> Result<(), Fail> {
     let mut bench = Bench::new(rt.alloc())?;
-    let said = bench.line(rt.alloc(), b"ss")?;
-    assert_eq!(rt; said.outcome, Outcome::Step);
-    let said = bench.line(rt.alloc(), b"go 1008")?;
-    assert_eq!(rt; said.outcome, Outcome::Go);
-    let mut context = bench.ctxs[0];
-    assert_eq!(rt; context.pc, 0x1008);
-    context.halted = true;
-    bench.ctxs[0] = context;
-    let said = bench.line(rt.alloc(), b"ss")?;
+    assert_eq!(rt; outcome_of(rt.alloc(), &mut bench, b"ss")?, Outcome::Step);
     assert_eq!(rt;
-        said.text.as_bytes(),
-        b"diag: 16: cpu 0 is halted\n".as_slice()
+        outcome_of(rt.alloc(), &mut bench, b"go 1008")?,
+        Outcome::Go
+    );
+    let context = bench.ctxs[0];
+    assert_eq!(rt; context.pc, 0x1008);
+    Ok(())
+}
+
+/// Halts processor 0.
+fn halt_first(ctxs: &mut [Context; 2]) {
+    let mut context = ctxs[0];
+    context.halted = true;
+    ctxs[0] = context;
+}
+
+#[test]
+fn a_halted_processor_makes_no_step(rt: HostRuntime) -> Result<(), Fail> {
+    let mut bench = Bench::new(rt.alloc())?;
+    halt_first(&mut bench.ctxs);
+    assert!(rt;
+        prints(
+            rt.alloc(),
+            &mut bench,
+            b"ss",
+            b"diag: 16: cpu 0 is halted\n"
+        )?
     );
     Ok(())
 }
