@@ -1,5 +1,6 @@
 //! Whole runs of two harts over the pure deck, by plans.
 ghost use Rattle.std.specs.Prelude.{◌≡◌};
+ghost use Rattle.deck_core.specs.contract.Told.{IsOpening};
 ghost use Rattle.hart_prog.specs.Plan.{AllStand};
 
 use crate::CoreBus;
@@ -7,7 +8,8 @@ use atom_mach::check_script;
 use deck_core::{Bus, Deck, Flat};
 use hart_prog::{Prog, programs, run_plan};
 use img_text::read_image;
-use mach_base::{Ending, Hart};
+use mach_base::{Ending, Hart, OutOfMemory};
+use std::alloc::Global;
 use std::test::Fail;
 use sym_map::Symbols;
 
@@ -19,9 +21,9 @@ const TWO_AND_HALT: &[u8] =
 type Ticks = (u8, u32);
 
 /// Makes so many ticks of a hart.
-fn make_ticks(deck: &mut Flat<CoreBus>, progs: &mut [Prog], hart: Hart, ticks: u32)
-    requires { AllStand (⟦<Flat<CoreBus> as Deck>⟧.whole deck.old) progs.old }
-    ensures { AllStand (⟦<Flat<CoreBus> as Deck>⟧.whole deck.new) progs.new }
+fn make_ticks<B: Bus>(deck: &mut Flat<B>, progs: &mut [Prog], hart: Hart, ticks: u32)
+    requires { AllStand (⟦<Flat<B> as Deck>⟧.whole deck.old) progs.old }
+    ensures { AllStand (⟦<Flat<B> as Deck>⟧.whole deck.new) progs.new }
 {
     for _ in 0..ticks {
         if (hart.0 as usize) < progs.len() {
@@ -30,18 +32,47 @@ fn make_ticks(deck: &mut Flat<CoreBus>, progs: &mut [Prog], hart: Hart, ticks: u
     }
 }
 
-/// The bus of two harts over this script after the plan, with 100 rounds of looks.
-fn bus_after(rt: HostRuntime, script: &[u8], plan: &[Ticks]) -> Result<CoreBus, Fail> {
-    let alloc = rt.alloc();
-    let script = check_script(alloc, script)?;
-    let image = read_image(alloc, TWO_AND_HALT)?;
-    let bus = CoreBus::start(alloc, &image, Symbols::empty(alloc), script, 2, 1_000_000)?;
+/// This bus of two harts after the plan, with 100 rounds of looks.
+fn bus_after<B: Bus>(alloc: Global, bus: B, plan: &[Ticks]) -> Result<B, OutOfMemory>
+    requires opening { IsOpening (B.told bus) }
+    requires two { (B.told bus).harts ≡ 2 }
+{
     let mut deck = Flat::new(alloc, bus, 100)?;
     let mut progs = programs(alloc, 2, 100)?;
     for &(hart, ticks) in plan {
         make_ticks(&mut deck, &mut progs, Hart(hart), ticks);
     }
     Ok(deck.into_bus())
+}
+
+/// What a plan leaves.
+#[derive(Clone, Copy)]
+struct Left {
+    /// Whether it prints what is wanted.
+    prints: bool,
+    journal: u64,
+    steps: u64,
+    over: Option<Ending>,
+    lost: bool,
+    mask: u64,
+    lines: u64,
+}
+
+/// What the plan leaves of the bus of two harts over this script, and whether it prints this text.
+fn left_by(alloc: Global, script: &[u8], plan: &[Ticks], text: &[u8]) -> Result<Left, Fail> {
+    let script = check_script(alloc, script)?;
+    let image = read_image(alloc, TWO_AND_HALT)?;
+    let bus = CoreBus::start(alloc, &image, Symbols::empty(alloc), script, 2, 1_000_000)?;
+    let bus = bus_after(alloc, bus, plan)?;
+    Ok(Left {
+        prints: bus.core().transcript() == text,
+        journal: bus.core().journal().len(),
+        steps: bus.core().steps(),
+        over: bus.over(),
+        lost: bus.lost(),
+        mask: bus.mask(),
+        lines: bus.notes().lines,
+    })
 }
 
 /// Hart 1 has seen the gate open, but its mark still has the old number when hart 0 shuts the gate again.
@@ -82,24 +113,22 @@ BP #0 cleared
 
 #[test]
 fn an_old_mark_does_not_count(rt: HostRuntime) -> Result<(), Fail> {
-    let bus = bus_after(rt, b"bp 1004\ngo\ngo\n", OLD_MARK)?;
-    assert_eq!(rt; bus.core().transcript(), OLD_MARK_TEXT.as_bytes());
-    assert_eq!(rt; (bus.core().journal().len(), bus.core().steps()), (25, 4));
-    assert_eq!(rt;
-        (bus.over(), bus.lost(), bus.mask()),
-        (Some(Ending::ScriptEnd), false, 0)
-    );
+    let text = OLD_MARK_TEXT.as_bytes();
+    let left = left_by(rt.alloc(), b"bp 1004\ngo\ngo\n", OLD_MARK, text)?;
+    assert!(rt; left.prints);
+    assert_eq!(rt; (left.journal, left.steps), (25, 4));
+    assert!(rt; left.over == Some(Ending::ScriptEnd) && !left.lost);
+    assert_eq!(rt; left.mask, 0);
     Ok(())
 }
 
 #[test]
 fn a_trap_that_is_gone_opens_no_session(rt: HostRuntime) -> Result<(), Fail> {
-    let bus = bus_after(rt, b"bp 1004\ngo\nbc 0\ngo\n", GONE_TRAP)?;
-    assert_eq!(rt; bus.core().transcript(), GONE_TRAP_TEXT.as_bytes());
-    assert_eq!(rt; (bus.core().journal().len(), bus.core().steps()), (21, 6));
-    assert_eq!(rt;
-        (bus.over(), bus.notes().lines),
-        (Some(Ending::AllHalted), 4)
-    );
+    let text = GONE_TRAP_TEXT.as_bytes();
+    let left = left_by(rt.alloc(), b"bp 1004\ngo\nbc 0\ngo\n", GONE_TRAP, text)?;
+    assert!(rt; left.prints);
+    assert_eq!(rt; (left.journal, left.steps), (21, 6));
+    assert!(rt; left.over == Some(Ending::AllHalted));
+    assert_eq!(rt; left.lines, 4);
     Ok(())
 }

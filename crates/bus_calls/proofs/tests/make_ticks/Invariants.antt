@@ -1,9 +1,8 @@
 use Rattle.std.proofs.Common.{Some}
 use Rattle.deck_core.specs.decks.Seats.{configuration_of}
 use Rattle.hart_prog.specs.Plan.{AllStand}
-use Rattle.bus_calls.specs.Bus.{told}
 use Rattle.bus_calls.proofs.tests.make_ticks.Given as goal
 
 -- each program stands where the deck has it
 abbrev pub invariant-loop : goal.invariant-loop
-invariant-loop l = AllStand (Some (configuration_of l.deck.limit l.deck.seats (told l.deck.bus))) l.progs
+invariant-loop g l = AllStand (Some (configuration_of l.deck.limit l.deck.seats (g.B.Bus.told l.deck.bus))) l.progs
