@@ -1,5 +1,5 @@
 -- Lists of passes: one more at the end, and what the workers make of all.
-use Rattle.std.proofs.Common.{◌≡◌, ℕ, suc, ◌+◌, ◌++◌, Bool, true, false, List, [], ◌∷◌, Option, length, refl, sym, ◌∙◌, ap, ap₂, subst, arith}
+use Rattle.std.proofs.Common.{◌≡◌, ℕ, suc, ◌+◌, ◌++◌, true, false, List, [], ◌∷◌, Option, length, refl, sym, ◌∙◌, ap, ap₂, subst, arith}
 use Rattle.atomic_table.specs.Seated.{TableId}
 use Rattle.deck_core.specs.ticks.NextPhase.{is_transaction}
 use Rattle.deck_core.specs.ticks.Phases.{holds, is_finished}
