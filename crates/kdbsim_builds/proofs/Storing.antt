@@ -1,5 +1,5 @@
 -- What the writes of files come to.
-use Rattle.std.proofs.Common.{◌≡◌, ℕ, ◌≤◌, ◌⊎◌, inl, inr, List, [], ◌∷◌, Option, refl, sym, ap, ◌∙◌, subst, arith}
+use Rattle.std.proofs.Common.{◌≡◌, ℕ, ◌≤◌, inl, inr, List, [], ◌∷◌, Option, refl, sym, ap, ◌∙◌, subst, arith}
 use Rattle.std.specs.Option.{option_map}
 use Rattle.std.specs.FinMap.{insert}
 use Rattle.io_edge.specs.Edge.{FileMap, HasRisen, KeepsOthers}
@@ -17,14 +17,17 @@ shelf_call f0 f1 n0 n1 = record { files_before = f0; files_after = f1; count_bef
 pub lost_first : (f0 f1 f2 : Option FileMap) (name text : List ℕ) (later : List Product) (before n0 n1 n2 : ℕ) → f1 ≡ f0 → n1 ≡ n0 → before ≤ n0 → KeepsOthers name f1 f2 → HasRisen n1 n2
     → IsStored (shelf_call f0 f2 before n2) ((name, text) ∷ later) WriteFault
 lost_first f0 f1 f2 name text later before n0 n1 n2 same count le others risen =
-    inr (inl (refl, record {
-      written = [];
-      lost = (name, text);
-      later = later;
-      split = refl;
-      others = subst (λ f. KeepsOthers name f f2) same others;
-      count = HasRisen-from before n1 n2 (subst (λ n. before ≤ n) (sym count) le) risen;
-    }))
+    inr (inl (
+      refl,
+      record {
+        written = [];
+        lost = (name, text);
+        later = later;
+        split = refl;
+        others = subst (λ f. KeepsOthers name f f2) same others;
+        count = HasRisen-from before n1 n2 (subst (λ n. before ≤ n) (sym count) le) risen;
+      },
+    ))
 
 le_all : {a b c d : ℕ} → a ≤ b → c ≡ b → c ≤ d → a ≤ d
 le_all x y z = omega (arith, x, y, z)
@@ -33,14 +36,17 @@ le_all x y z = omega (arith, x, y, z)
 pub lost_second : (f0 f1 f2 f3 : Option FileMap) (name text second other : List ℕ) (before n0 n1 n2 n3 : ℕ) → f1 ≡ f0 → f2 ≡ option_map (λ fs. insert fs name text) f1 → n1 ≡ n0 → n1 ≤ n2 → before ≤ n0
     → KeepsOthers second f2 f3 → HasRisen n2 n3 → IsStored (shelf_call f0 f3 before n3) ((name, text) ∷ (second, other) ∷ []) WriteFault
 lost_second f0 f1 f2 f3 name text second other before n0 n1 n2 n3 same put count more le others risen =
-    inr (inl (refl, record {
-      written = (name, text) ∷ [];
-      lost = (second, other);
-      later = [];
-      split = refl;
-      others = subst (λ f. KeepsOthers second f f3) (put ∙ ap (option_map (λ fs. insert fs name text)) same) others;
-      count = HasRisen-from before n2 n3 (le_all le count more) risen;
-    }))
+    inr (inl (
+      refl,
+      record {
+        written = (name, text) ∷ [];
+        lost = (second, other);
+        later = [];
+        split = refl;
+        others = subst (λ f. KeepsOthers second f f3) (put ∙ ap (option_map (λ fs. insert fs name text)) same) others;
+        count = HasRisen-from before n2 n3 (le_all le count more) risen;
+      },
+    ))
 
 -- what was stored after the file was read
 pub stored_by : (IsMade : List Product → Type 0) (kind : Kind) (name : List ℕ) (f0 f1 f2 : Option FileMap) (n0 n1 n2 : ℕ) (products : List Product) (status : Status) → f1 ≡ f0 → n0 ≤ n1 → IsMade products

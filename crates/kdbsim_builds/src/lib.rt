@@ -8,9 +8,11 @@
 #![tactic(auto)]
 
 mod builds;
+mod laws;
 mod store;
 #[cfg(test)]
 mod tests;
 mod texts;
 
 pub use builds::{assemble, convert};
+pub use laws::made_files_are_told;

@@ -1,5 +1,5 @@
 -- A legal journal has no bad step, and a journal has one at most.
-use Rattle.std.proofs.Common.{◌≡◌, ℕ, suc, ◌⊎◌, inl, inr, List, [], ◌∷◌, ◌++◌, length, Option, Some, None, refl, sym, ap, ◌∙◌, subst}
+use Rattle.std.proofs.Common.{◌≡◌, ℕ, suc, inl, inr, List, [], ◌∷◌, ◌++◌, length, Some, None, refl, sym, ap, ◌∙◌, subst}
 use Rattle.mach_base.specs.declared.event.Entry.{Entry}
 use Rattle.io_edge.specs.Edge.{FileMap}
 use Rattle.plant_mach.specs.Machine.{PlantedMachine}
@@ -8,13 +8,14 @@ use Rattle.bus_core.specs.Origin.{Origin, start_of}
 use Rattle.kdbsim_runs.specs.Replay.{IsBadStep}
 use Rattle.kdbsim_runs.proofs.Endings.{split}
 use Rattle.program_words.specs.Words.{Text}
-use Rattle.program_words.specs.Commands.{Command, uni, replay, run, lockstep}
+use Rattle.program_words.specs.Commands.{Command, uni, replay, run, lockstep, asm, elf}
 use Rattle.kdbsim_files.specs.declared.status.Status.{Status}
 use Rattle.kdbsim_files.specs.declared.status.Status.TheVariants.{BadStep}
 use Rattle.kdbsim_files.specs.Files.{Recording, image_file, map_file, script_file, journal_file}
 use Rattle.kdbsim_files.specs.Laws.{FilesMeanOneThing}
 use Rattle.kdbsim_top.specs.Runs.{Outcome, IsIllegal, IsIllegalAt, IsJournaled, inputs_of}
-use Rattle.kdbsim_top.specs.Causes.{Outside, Explains, IsPublished}
+use Rattle.kdbsim_builds.specs.Stored.{Product}
+use Rattle.kdbsim_top.specs.Causes.{Outside, Explains, IsMade, IsPublished}
 use Rattle.kdbsim_top.proofs.Exclusion.{refusal_in}
 
 -- ---- lists of entries
@@ -119,10 +120,16 @@ not_published o out index (inl h) = subst IsBad h.0 tt
 not_published o out index (inr (inl h)) = subst IsBad h.0 tt
 not_published o out index (inr (inr h)) = subst IsBad h.0 tt
 
+not_made : (o : Outside) (products : List Product) (index : ℕ) → IsMade o products (BadStep index) → ⊥
+not_made o products index (inl h, quiet) = subst IsBad h.0 tt
+not_made o products index (inr (inl h), quiet) = subst IsBad h.0 tt
+not_made o products index (inr (inr h), quiet) = subst IsBad h.0 tt
+
 illegal_of : (o : Outside) (command : Command) (index : ℕ) → Explains o command (BadStep index) → IsIllegal o.files_before command index
 illegal_of o command index (inl h) = absurd (not_published o h.0 index h.2)
-illegal_of o command index (inr (inl h)) = subst (IsIllegal o.files_before command) (sym (ap bad_index h.1)) h.2
-illegal_of o command index (inr (inr h)) = absurd (refusal_in o.files_before (inputs_of command) o.shelf_before o.shelf_after (BadStep index) tt h.0)
+illegal_of o command index (inr (inl h)) = absurd (not_made o h.0 index h.2)
+illegal_of o command index (inr (inr (inl h))) = subst (IsIllegal o.files_before command) (sym (ap bad_index h.1)) h.2
+illegal_of o command index (inr (inr (inr h))) = absurd (refusal_in o.files_before (inputs_of command) o.shelf_before o.shelf_after (BadStep index) tt h.0)
 
 told_illegal : (o : Outside) (command : Command) (files : FileMap) (index : ℕ) → o.files_before ≡ Some files → Explains o command (BadStep index) → IsIllegal (Some files) command index
 told_illegal o command files index told h = subst (λ f. IsIllegal f command index) told (illegal_of o command index h)
@@ -137,6 +144,8 @@ two_bad : FilesMeanOneThing → (files : FileMap) (command : Command) (index oth
 two_bad law files (uni image script) index other a b = absurd a
 two_bad law files (run image map script journal options) index other a b = absurd a
 two_bad law files (lockstep image map script plan journal options) index other a b = absurd a
+two_bad law files (asm source image) index other a b = absurd a
+two_bad law files (elf executable image map) index other a b = absurd a
 two_bad law files (replay image map script journal) index other a b =
     one_place a.start a.entries index other a.bad (moved law files image map script journal a.start b.start a.entries b.entries a.inputs b.inputs other b.bad)
 

@@ -1,11 +1,15 @@
 -- The cause of an answer, by what the stages before it did.
-use Rattle.std.proofs.Common.{◌≡◌, ℕ, ◌≤◌, ◌⊎◌, inl, inr, false, List, Option, Some, None, refl, sym, ap, ◌∙◌, subst}
+use Rattle.std.proofs.Common.{◌≡◌, ◌≢◌, ℕ, ◌≤◌, inl, inr, Bool, true, false, not, List, Option, Some, None, refl, sym, subst}
+use Rattle.std.specs.Str.{bytes_eq}
+use Rattle.std.proofs.lemmas.Slice.Eq.{bytes_eq-Decides}
 use Rattle.io_edge.specs.Edge.{FileMap}
 use Rattle.program_words.specs.Words.{Text}
-use Rattle.program_words.specs.Commands.{Command, uni, replay, run, lockstep}
+use Rattle.program_words.specs.Commands.{Command, uni, replay, run, lockstep, asm, elf}
 use Rattle.kdbsim_files.specs.declared.status.Status.{Status}
 use Rattle.kdbsim_files.specs.declared.status.Status.TheVariants.{Usage, OutOfMemory}
-use Rattle.kdbsim_files.specs.Files.{FailsAt}
+use Rattle.kdbsim_files.specs.Files.{FailsAt, source_file, elf_file}
+use Rattle.kdbsim_builds.specs.Stored.{ShelfCall}
+use Rattle.kdbsim_builds.specs.Builds.{ExplainsBuild, IsAssembled, IsConverted}
 use Rattle.kdbsim_top.specs.Runs.{Outcome, IsOutcome, inputs_of, is_run}
 use Rattle.kdbsim_top.specs.Stages.{FailsReplay}
 use Rattle.kdbsim_top.specs.Causes.{Outside, IsQuiet, IsPublished, Explains, IsAnswer, IsAnswerAlone}
@@ -31,23 +35,47 @@ pub published : (command : Command) (f0 f1 f2 : Option FileMap) (n0 n1 n2 : ℕ)
 published command f0 f1 f2 n0 n1 n2 t0 t1 k0 k1 out status same le ran p = inl (out, ran, subst (λ f. IsPublished (outside f f2 n0 n2 t0 t1 k0 k1) out status) same (p n0 le))
 
 pub failed : (command : Command) (f0 f1 : Option FileMap) (n0 n1 : ℕ) (t : Option (List ℕ)) (k : ℕ) (status : Status) → f1 ≡ f0 → FailsAt f0 (inputs_of command) n0 n1 status → Explains (outside f0 f1 n0 n1 t t k k) command status
-failed command f0 f1 n0 n1 t k status same h = inr (inr (h, record { files = same; taken = refl }))
+failed command f0 f1 n0 n1 t k status same h = inr (inr (inr (h, record { files = same; taken = refl })))
 
 pub replay_failed : (image map script journal : Text) (f0 f1 : Option FileMap) (n0 n1 : ℕ) (t : Option (List ℕ)) (k : ℕ) (status : Status) → f1 ≡ f0 → FailsReplay f0 image map script journal n0 n1 status
     → Explains (outside f0 f1 n0 n1 t t k k) (replay image map script journal) status
 replay_failed image map script journal f0 f1 n0 n1 t k status same (inl h) = failed (replay image map script journal) f0 f1 n0 n1 t k status same h
-replay_failed image map script journal f0 f1 n0 n1 t k status same (inr h) = inr (inl (h.0, h.1, h.2, record { files = same; taken = refl }))
+replay_failed image map script journal f0 f1 n0 n1 t k status same (inr h) = inr (inr (inl (h.0, h.1, h.2, record { files = same; taken = refl })))
+
+abbrev pub shelf_only : Option FileMap → Option FileMap → ℕ → ℕ → ShelfCall
+shelf_only f0 f1 n0 n1 = record { files_before = f0; files_after = f1; count_before = n0; count_after = n1 }
+
+-- the commands that make files
+pub assembled : (source image : Text) (f0 f1 : Option FileMap) (n0 n1 : ℕ) (t : Option (List ℕ)) (k : ℕ) (status : Status) → ExplainsBuild (IsAssembled f0 source image) source_file source (shelf_only f0 f1 n0 n1) status
+    → Explains (outside f0 f1 n0 n1 t t k k) (asm source image) status
+assembled source image f0 f1 n0 n1 t k status (inl h) = inr (inl (h.0, h.1, (h.2, refl)))
+assembled source image f0 f1 n0 n1 t k status (inr h) = inr (inr (inr (inl h.0, record { files = h.1; taken = refl })))
+
+pub converted : (executable image map : Text) (f0 f1 : Option FileMap) (n0 n1 : ℕ) (t : Option (List ℕ)) (k : ℕ) (status : Status) → ExplainsBuild (IsConverted f0 executable image map) elf_file executable (shelf_only f0 f1 n0 n1) status
+    → Explains (outside f0 f1 n0 n1 t t k k) (elf executable image map) status
+converted executable image map f0 f1 n0 n1 t k status (inl h) = inr (inl (h.0, h.1, (h.2, refl)))
+converted executable image map f0 f1 n0 n1 t k status (inr h) = inr (inr (inr (inl h.0, record { files = h.1; taken = refl })))
+
+-- two names that differ
+pub names_apart : (image map : Text) → not (bytes_eq image map) ≡ true → map ≢ image
+names_apart image map apart same = differs (bytes_eq image map) apart ((bytes_eq-Decides image map).1 (sym same))
+  where
+    differs : (b : Bool) → not b ≡ true → b ≡ true → ⊥
+    differs true e f = absurd (cc)
+    differs false e f = absurd (cc)
 
 lacks_memory : (files : Option FileMap) (command : Command) (before after : ℕ) → FailsAt files (inputs_of command) before after OutOfMemory
 lacks_memory files (uni image script) before after = inl (inr (inr refl))
 lacks_memory files (replay image map script journal) before after = inl (inr (inr refl))
 lacks_memory files (run image map script journal options) before after = inl (inr (inr refl))
 lacks_memory files (lockstep image map script plan journal options) before after = inl (inr (inr refl))
+lacks_memory files (asm source image) before after = inl (inr (inr refl))
+lacks_memory files (elf executable image map) before after = inl (inr (inr refl))
 
 -- memory may run out before anything is read
 pub memory_answer : (o : Outside) (command : Option Command) → IsQuiet o → IsAnswer o command OutOfMemory
 memory_answer o None quiet = (inr refl, quiet)
-memory_answer o (Some command) quiet = inr (inr (lacks_memory o.files_before command o.shelf_before o.shelf_after, quiet))
+memory_answer o (Some command) quiet = inr (inr (inr (lacks_memory o.files_before command o.shelf_before o.shelf_after, quiet)))
 
 pub usage_answer : (o : Outside) (command : Option Command) → command ≡ None → IsQuiet o → IsAnswer o command Usage
 usage_answer o command is quiet = subst (λ c. IsAnswer o c Usage) (sym is) (inl refl, quiet)
@@ -55,7 +83,7 @@ usage_answer o command is quiet = subst (λ c. IsAnswer o c Usage) (sym is) (inl
 -- the same of a call that makes no threads
 pub memory_alone : (o : Outside) (command : Option Command) → IsQuiet o → IsAnswerAlone o command OutOfMemory
 memory_alone o None quiet = (inr refl, quiet)
-memory_alone o (Some command) quiet = (inr refl, inr (inr (lacks_memory o.files_before command o.shelf_before o.shelf_after, quiet)))
+memory_alone o (Some command) quiet = (inr refl, inr (inr (inr (lacks_memory o.files_before command o.shelf_before o.shelf_after, quiet))))
 
 pub answered : (o : Outside) (words : Option Command) (command : Command) (status : Status) → words ≡ Some command → Explains o command status → IsAnswer o words status
 answered o words command status is cause = subst (λ c. IsAnswer o c status) (sym is) cause

@@ -1,5 +1,5 @@
 -- The cause of each answer of the top call.
-use Rattle.std.specs.Prelude.{◌≡◌, ℕ, ◌⊎◌, Bool, true, false, List, ◌++◌, Option, Some, None}
+use Rattle.std.specs.Prelude.{◌≡◌, ℕ, ◌⊎◌, true, false, List, ◌++◌, Option, Some, None}
 use Rattle.std.specs.Option.{option_map}
 use Rattle.std.specs.FinMap.{insert}
 use Rattle.io_edge.specs.Edge.{FileMap, HasRisen, HasTakenPart, KeepsOthers}
@@ -8,7 +8,8 @@ use Rattle.program_words.specs.Commands.{Command}
 use Rattle.kdbsim_files.specs.Files.{FailsAt}
 use Rattle.kdbsim_files.specs.declared.status.Status.{Status}
 use Rattle.kdbsim_files.specs.declared.status.Status.TheVariants.{Done, Usage, BadStep, WriteFault, OutOfMemory}
-use Rattle.kdbsim_top.specs.Runs.{Outcome, IsOutcome, IsIllegal, inputs_of, is_run}
+use Rattle.kdbsim_builds.specs.Stored.{Product, ShelfCall, IsStored}
+use Rattle.kdbsim_top.specs.Runs.{Outcome, IsOutcome, AreProducts, IsIllegal, inputs_of, is_run}
 
 -- what the shelf and the sink tell before and after a call: the shelf's files and its count of faults; the bytes that the
 -- sink took and its count of faults
@@ -59,11 +60,27 @@ IsPublished o out status =
     ⊎ ((status ≡ WriteFault) × (HasLostJournal o out ⊎ HasLostText o out))
     ⊎ ((status ≡ OutOfMemory) × IsQuiet o)
 
--- The cause of each answer to a command, what must have been so for it to come: the outcome of its run was to be written;
--- or nothing was written, and an entry of the journal that it replays isn't legal, or one of its files fails.
+-- what the shelf tells
+abbrev pub shelf_call : Outside → ShelfCall
+shelf_call o = record {
+  files_before = o.files_before;
+  files_after = o.files_after;
+  count_before = o.shelf_before;
+  count_after = o.shelf_after;
+}
+
+-- the answer to files that are to be written: they are, and nothing else; the shelf failed at one; or memory ran out before
+-- the first. The sink took nothing.
+abbrev pub IsMade : Outside → List Product → Status → Type 0
+IsMade o products status = IsStored (shelf_call o) products status × (o.taken_after ≡ o.taken_before)
+
+-- The cause of each answer to a command, what must have been so for it to come: the outcome of its run was to be written, or
+-- the files that it makes were; or nothing was written, and an entry of the journal that it replays isn't legal, or one of
+-- the files that it reads fails.
 abbrev pub Explains : Outside → Command → Status → Type 0
 Explains o command status =
     ((out : Outcome) × IsOutcome o.files_before command out × IsPublished o out status)
+    ⊎ ((products : List Product) × AreProducts o.files_before command products × IsMade o products status)
     ⊎ ((index : ℕ) × (status ≡ BadStep index) × IsIllegal o.files_before command index × IsQuiet o)
     ⊎ (FailsAt o.files_before (inputs_of command) o.shelf_before o.shelf_after status × IsQuiet o)
 

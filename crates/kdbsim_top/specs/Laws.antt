@@ -5,17 +5,18 @@ use Rattle.mach_base.specs.declared.event.Entry.{Entry}
 use Rattle.plant_mach.specs.Entries.{Made, made_by}
 use Rattle.bus_core.specs.Origin.{Origin, start_of}
 use Rattle.program_words.specs.Words.{Text}
-use Rattle.program_words.specs.Commands.{Command, replay}
+use Rattle.program_words.specs.Commands.{Command, replay, asm, elf}
 use Rattle.kdbsim_files.specs.Files.{Input, Value, HasFile}
 use Rattle.kdbsim_files.specs.Laws.{IsRefusal}
 use Rattle.kdbsim_files.specs.declared.status.Status.{Status}
-use Rattle.kdbsim_files.specs.declared.status.Status.TheVariants.{Done, BadStep, OutOfMemory}
+use Rattle.kdbsim_files.specs.declared.status.Status.TheVariants.{Done, Made as MadeFiles, BadStep, OutOfMemory}
 use Rattle.kdbsim_top.specs.Runs.{IsJournaled, inputs_of}
 use Rattle.kdbsim_top.specs.Causes.{Outside, Explains}
 
 -- the answers that the files alone give
 abbrev pub IsOfFiles : Status → Type 0
 IsOfFiles (Done ending) = Unit {0}
+IsOfFiles MadeFiles = Unit {0}
 IsOfFiles (BadStep index) = Unit {0}
 IsOfFiles status = IsRefusal status
 
@@ -30,19 +31,31 @@ abbrev pub AreRight : Option FileMap → List Input → Type 0
 AreRight files [] = Unit {0}
 AreRight files (input ∷ inputs) = ((value : Value input.kind) × HasFile files input.kind input.name value) × AreRight files inputs
 
--- the answers of a call in which nothing was wrong with a file
-abbrev pub IsEnd : Status → Type 0
-IsEnd (Done ending) = Unit {0}
-IsEnd (BadStep index) = Unit {0}
-IsEnd OutOfMemory = Unit {0}
-IsEnd other = ⊥
+-- the answers of a run in which nothing was wrong with a file
+abbrev pub IsEndOfRun : Status → Type 0
+IsEndOfRun (Done ending) = Unit {0}
+IsEndOfRun (BadStep index) = Unit {0}
+IsEndOfRun OutOfMemory = Unit {0}
+IsEndOfRun other = ⊥
+
+-- the answers of a command that makes files, where nothing was wrong with the file that it reads
+abbrev pub IsEndOfMaking : Status → Type 0
+IsEndOfMaking MadeFiles = Unit {0}
+IsEndOfMaking OutOfMemory = Unit {0}
+IsEndOfMaking other = ⊥
+
+-- the answers of a command in which nothing was wrong with a file
+abbrev pub IsEnd : Command → Status → Type 0
+IsEnd (asm source image) status = IsEndOfMaking status
+IsEnd (elf executable image map) status = IsEndOfMaking status
+IsEnd other status = IsEndOfRun status
 
 -- Right files, and counts that don't rise, leave the end of the run, a journal of which an entry isn't legal, or that memory
--- ran out.
+-- ran out; and of a command that makes files, that they are made, or that memory ran out.
 abbrev pub RightFilesEnd : Type 0
 RightFilesEnd =
     (o : Outside) (command : Command) (files : FileMap) (status : Status) → o.files_before ≡ Some files → AreRight (Some files) (inputs_of command)
-    → ¬ (HasRisen o.shelf_before o.shelf_after) → ¬ (HasRisen o.sink_before o.sink_after) → Explains o command status → IsEnd status
+    → ¬ (HasRisen o.shelf_before o.shelf_after) → ¬ (HasRisen o.sink_before o.sink_after) → Explains o command status → IsEnd command status
 
 -- Where the shelf tells its files: a legal journal is not answered by a bad step; and a journal has one bad step at most.
 pub record JournalsEndInOneWay : Type 0 where

@@ -17,9 +17,11 @@ use Rattle.kdbsim_runs.specs.Record.{IsRecord, ending_in}
 use Rattle.kdbsim_runs.specs.Replay.{IsBadStep}
 use Rattle.kdbsim_runs.specs.Lockstep.{IsTicked}
 use Rattle.program_words.specs.Words.{Text}
-use Rattle.program_words.specs.Commands.{Command, uni, replay, run, lockstep}
+use Rattle.program_words.specs.Commands.{Command, uni, replay, run, lockstep, asm, elf}
 use Rattle.program_words.specs.declared.request.Options.{Options}
-use Rattle.kdbsim_files.specs.Files.{Input, HasFile, image_file, map_file, script_file, plan_file, journal_file}
+use Rattle.kdbsim_files.specs.Files.{Input, HasFile, image_file, map_file, script_file, plan_file, journal_file, source_file, elf_file}
+use Rattle.kdbsim_builds.specs.Stored.{Product}
+use Rattle.kdbsim_builds.specs.Builds.{IsAssembled, IsConverted}
 
 -- the limit of steps of uni
 abbrev pub uni_limit : ℕ
@@ -36,6 +38,8 @@ inputs_of (uni image script) = record { kind = image_file; name = image } ∷ re
 inputs_of (replay image map script journal) = start_inputs image map script (record { kind = journal_file; name = journal } ∷ [])
 inputs_of (run image map script journal options) = start_inputs image map script []
 inputs_of (lockstep image map script plan journal options) = start_inputs image map script (record { kind = plan_file options.harts; name = plan } ∷ [])
+inputs_of (asm source image) = record { kind = source_file; name = source } ∷ []
+inputs_of (elf executable image map) = record { kind = elf_file; name = executable } ∷ []
 
 -- What a run comes to: how it ended, its transcript, and the journal that is to be written, if one is, with its name.
 pub record Outcome : Type 0 where
@@ -109,12 +113,20 @@ pub record IsRun (files : Option FileMap) (image map script journal : Text) (opt
   pub recorded : IsRecorded files image map script journal options start entries out
   pub ends : ending_in entries ≡ Some out.ending
 
--- the outcome of a command
+-- the outcome of a command; one that runs no machine has none
 abbrev pub IsOutcome : Option FileMap → Command → Outcome → Type 0
 IsOutcome files (uni image script) out = IsUniRun files image script out
 IsOutcome files (replay image map script journal) out = IsReplayed files image map script journal out
 IsOutcome files (run image map script journal options) out = IsRun files image map script journal options out
 IsOutcome files (lockstep image map script plan journal options) out = IsLockstep files image map script plan journal options out
+IsOutcome files (asm source image) out = ⊥
+IsOutcome files (elf executable image map) out = ⊥
+
+-- what a command that makes files is to write; the others make none
+abbrev pub AreProducts : Option FileMap → Command → List Product → Type 0
+AreProducts files (asm source image) products = IsAssembled files source image products
+AreProducts files (elf executable image map) products = IsConverted files executable image map products
+AreProducts files other products = ⊥
 
 -- the command replays a journal of which the entry of this index is the first that isn't legal
 abbrev pub IsIllegal : Option FileMap → Command → ℕ → Type 0

@@ -1,7 +1,7 @@
 //! The top call.
-ghost use Rattle.std.specs.Prelude.{◌≡◌, false, map, None, MatchOption};
+ghost use Rattle.std.specs.Prelude.{◌≡◌, ℕ, List, Option, true, false, map, None, MatchOption};
 ghost use Rattle.std.specs.String.{string_bytes};
-ghost use Rattle.program_words.specs.Commands.{command_of};
+ghost use Rattle.program_words.specs.Commands.{command_of, writes_apart};
 ghost use Rattle.program_words.specs.Commands as words;
 ghost use Rattle.program_words.specs.Laws.{AreWithin, IsCommandWithin};
 ghost use Rattle.program_words.specs.Views.{command_view};
@@ -14,6 +14,7 @@ use crate::inputs::StartNames;
 use crate::publish::{print, publish};
 use deck_core::Pause;
 use io_edge::{Shelf, Sink};
+use kdbsim_builds::{assemble, convert};
 use kdbsim_files::Status;
 use program_words::{Command, Options, WordsFault, command_of};
 use std::alloc::Global;
@@ -21,7 +22,8 @@ use std::sync::Wait;
 use std::thread::Threads;
 
 /// All that the program does: reads its words, reads the files that they name from the shelf, runs the machine, writes the
-/// journal, if the command has one, and puts the transcript into the sink in one call. The answer says how the run ended, or
+/// journal, if the command has one, and puts the transcript into the sink in one call; of a command that makes files it writes
+/// these. The answer says how the run ended, or
 /// why there was none; each has its cause (docs/theorems.md). The workers of `run` are threads of `rt`, and each pauses on
 /// its own copy of `pause` where its hart can't go on; the call may wait for one of them for ever.
 pub fn kdbsim<R: Threads + Wait + Sync, F: Shelf, O: Sink, P: Pause + Copy + Send>(
@@ -112,6 +114,7 @@ fn answer<F: Shelf, O: Sink>(
     out: &mut O,
 ) -> Status
     requires within { IsCommandWithin (command_view command) }
+    requires apart { writes_apart (command_view command) ≡ true }
     requires alone { is_run (command_view command) ≡ false }
     ensures cause { Explains (record {
       files_before = F.contents shelf.old;
@@ -146,6 +149,12 @@ fn answer<F: Shelf, O: Sink>(
             let names = StartNames { image, map, script };
             answer_lockstep(alloc, shelf, out, names, plan, journal, options)
         }
+        Command::Asm { source, image } => answer_asm(alloc, shelf, source, image),
+        Command::Elf {
+            executable,
+            image,
+            map,
+        } => answer_elf(alloc, shelf, executable, image, map),
         Command::Run { .. } => unreachable!(),
     }
 }
@@ -226,6 +235,46 @@ fn answer_lockstep<F: Shelf, O: Sink>(
         Ok(recorded) => publish(shelf, out, journal, recorded),
         Err(status) => status,
     }
+}
+
+/// The command `asm`, which leaves the sink as it is.
+fn answer_asm<F: Shelf>(alloc: Global, shelf: &mut F, source: &str, image: &str) -> Status
+    ensures { (taken : Option (List ℕ)) (faults : ℕ) → Explains (record {
+      files_before = F.contents shelf.old;
+      files_after = F.contents shelf.new;
+      shelf_before = F.faults shelf.old;
+      shelf_after = F.faults shelf.new;
+      taken_before = taken;
+      taken_after = taken;
+      sink_before = faults;
+      sink_after = faults;
+    }) (words.asm source.now image.now) result }
+{
+    assemble(alloc, shelf, source, image)
+}
+
+/// The command `elf`, which leaves the sink as it is.
+#[tactic(auto, using(crate::proofs::Publishing::names_apart))]
+fn answer_elf<F: Shelf>(
+    alloc: Global,
+    shelf: &mut F,
+    executable: &str,
+    image: &str,
+    map: &str,
+) -> Status
+    requires apart { writes_apart (words.elf executable.now image.now map.now) ≡ true }
+    ensures { (taken : Option (List ℕ)) (faults : ℕ) → Explains (record {
+      files_before = F.contents shelf.old;
+      files_after = F.contents shelf.new;
+      shelf_before = F.faults shelf.old;
+      shelf_after = F.faults shelf.new;
+      taken_before = taken;
+      taken_after = taken;
+      sink_before = faults;
+      sink_after = faults;
+    }) (words.elf executable.now image.now map.now) result }
+{
+    convert(alloc, shelf, executable, image, map)
 }
 
 /// The command `run`.

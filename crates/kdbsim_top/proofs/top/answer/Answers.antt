@@ -1,4 +1,4 @@
-use Rattle.std.proofs.Common.{◌≡◌, ap, sym, subst}
+use Rattle.std.proofs.Common.{ap, sym, subst}
 use Rattle.program_words.specs.Views.{command_view}
 use Rattle.kdbsim_top.specs.Causes.{Explains}
 use Rattle.kdbsim_top.proofs.Publishing.{outside}
@@ -18,4 +18,20 @@ returns-in-Lockstep g c = record {
       (λ command. Explains (outside (g.F.Shelf.contents c.args.shelf.now) (g.F.Shelf.contents c.answer_lockstep.new.shelf) (g.F.Shelf.faults c.args.shelf.now) (g.F.Shelf.faults c.answer_lockstep.new.shelf)
       (g.O.Sink.taken c.args.out.now) (g.O.Sink.taken c.answer_lockstep.new.out) (g.O.Sink.faults c.args.out.now) (g.O.Sink.faults c.answer_lockstep.new.out)) command c.answer_lockstep.result)
       (sym (ap command_view c.in-Lockstep.is)) c.answer_lockstep.ensures.cause;
+}
+
+pub returns-in-Asm : goal.returns-in-Asm
+returns-in-Asm g c = record {
+  cause = subst
+      (λ command. Explains (outside (g.F.Shelf.contents c.args.shelf.now) (g.F.Shelf.contents c.answer_asm.new.shelf) (g.F.Shelf.faults c.args.shelf.now) (g.F.Shelf.faults c.answer_asm.new.shelf)
+      (g.O.Sink.taken c.args.out.now) (g.O.Sink.taken c.args.out.now) (g.O.Sink.faults c.args.out.now) (g.O.Sink.faults c.args.out.now)) command c.answer_asm.result)
+      (sym (ap command_view c.in-Asm.is)) (c.answer_asm.ensures (g.O.Sink.taken c.args.out.now) (g.O.Sink.faults c.args.out.now));
+}
+
+pub returns-in-Elf : goal.returns-in-Elf
+returns-in-Elf g c = record {
+  cause = subst
+      (λ command. Explains (outside (g.F.Shelf.contents c.args.shelf.now) (g.F.Shelf.contents c.answer_elf.new.shelf) (g.F.Shelf.faults c.args.shelf.now) (g.F.Shelf.faults c.answer_elf.new.shelf)
+      (g.O.Sink.taken c.args.out.now) (g.O.Sink.taken c.args.out.now) (g.O.Sink.faults c.args.out.now) (g.O.Sink.faults c.args.out.now)) command c.answer_elf.result)
+      (sym (ap command_view c.in-Elf.is)) (c.answer_elf.ensures (g.O.Sink.taken c.args.out.now) (g.O.Sink.faults c.args.out.now));
 }
