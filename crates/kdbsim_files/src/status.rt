@@ -14,7 +14,7 @@ pub enum File {
     Elf,
 }
 
-/// The answer of a call (README.md, "Exit codes").
+/// The answer of a call (docs/commands.md, "Exit codes").
 #[derive(Clone, Copy, Debug, PartialEq, Eq)]
 pub enum Status {
     /// The run has ended so, and its transcript is out.
