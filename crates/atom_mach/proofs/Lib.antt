@@ -7,6 +7,7 @@ pub mod Allowed
 pub mod Moved
 pub mod SessionLines
 pub mod FirstSteps
+pub mod NextWord
 pub mod LessWork
 pub mod Kept
 pub mod LimitsKept

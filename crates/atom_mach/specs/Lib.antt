@@ -13,5 +13,6 @@ pub mod Late
 pub mod Limits
 pub mod Work
 pub mod Tried
+pub mod NextWord
 pub mod Core
 pub mod StateCode

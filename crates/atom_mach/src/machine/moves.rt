@@ -7,16 +7,23 @@ use crate::machine::Core;
 use crate::step::Mode;
 use hart_step::{Did, exec};
 use mach_base::{Hart, OutOfMemory};
-use trap_ipi::take;
+use rv_table::EBREAK;
+use trap_ipi::{take, takeable};
+
+/// The only hart of a machine with one.
+pub const HART: Hart = Hart(0);
 
 impl Core {
-    ghost use Rattle.std.specs.Prelude.{◌≡◌, ◌+◌, ◌<◌, ◌≤◌, ◌++◌, [], false, None, IsTrue, OnOk, vec_len};
+    ghost use Rattle.std.specs.Prelude.{◌≡◌, ◌+◌, ◌<◌, ◌≤◌, ◌++◌, [], true, false, None, IsTrue, IfSome, IfNone, IfOk, MatchBool, OnOk, vec_len};
     ghost use Rattle.std.specs.Option.{option_to_list};
     ghost use Rattle.atom_mach.specs.Modes.{owes, mode_after, owed, Fits, IsGathered};
     ghost use Rattle.atom_mach.specs.Tried.{Moves, Tries};
     ghost use Rattle.atom_mach.specs.declared.step.AStep.TheVariants.{Instr, Intr};
     ghost use Rattle.atom_mach.specs.Traps.{fault_of, executed, console_text};
     ghost use Rattle.atom_mach.specs.Core.{machine_of, state_of};
+    ghost use Rattle.atom_mach.specs.NextWord.{IsNext};
+    ghost use Rattle.atom_mach.specs.Run.{Turns};
+    ghost use Rattle.atom_mach.specs.Work.{work_left};
 
     /// Executes the hart's instruction; this is the mode then. The answer is the byte that goes to the console, if any.
     #[tactic(auto, unfolding(crate::specs::Traps::executed, crate::specs::Traps::fault_of, crate::specs::Traps::console_text))]
@@ -43,6 +50,70 @@ impl Core {
             Did::Done(byte) => byte,
             Did::Fault(_) => unreachable!(),
         }
+    }
+
+    /// The word that is next for the only hart in the free machine, by one look at it: nothing but a fault of its own keeps
+    /// it from being executed. None where something else is next, and where the word is an `ebreak`.
+    fn next_word(&self) -> Option<u32>
+        requires { vec_len self.now.contexts ≡ 1 }
+        ensures { IfSome result (λ word. IsNext (state_of self.now) word) }
+    {
+        let context = self.context(HART);
+        match self.mode {
+            Mode::Free => (),
+            _ => return None,
+        }
+        if !self.opened || context.halted || takeable(context) || self.steps >= self.limit {
+            return None;
+        }
+        if self.kdb.breaks.enabled_at(context.pc).is_some() {
+            return None;
+        }
+        match self.map.fetch(context.pc) {
+            Ok(EBREAK) | Err(_) => None,
+            Ok(word) => Some(word),
+        }
+    }
+
+    /// Executes the word at the only hart's pc, in the free machine below the limit. The answer is the byte that goes to the
+    /// console, if any; None where the word faults, and nothing is changed then.
+    #[tactic(auto, unfolding(crate::specs::Traps::executed, crate::specs::Traps::fault_of, crate::specs::Traps::console_text))]
+    fn execute_word(&mut self, word: u32) -> Option<Option<u8>>
+        requires one_hart { vec_len self.old.contexts ≡ 1 }
+        requires next { IsNext (state_of self.old) word }
+        ensures same { IfNone result (state_of self.new ≡ state_of self.old) }
+        ensures right { IfSome result (λ byte. fault_of (machine_of self.old) 0 ≡ None) }
+        ensures machine { IfSome result (λ byte. machine_of self.new ≡ executed (machine_of self.old) 0) }
+        ensures mode { self.new.mode ≡ self.old.mode }
+        ensures console { IfSome result (λ byte. option_to_list byte ≡ console_text (machine_of self.old) 0) }
+        ensures harts { vec_len self.new.contexts ≡ vec_len self.old.contexts }
+    {
+        match exec(self.contexts.as_mut_slice(), &mut self.map, HART, word) {
+            Did::Done(byte) => {
+                self.steps += 1;
+                Some(byte)
+            }
+            Did::Fault(_) => None,
+        }
+    }
+
+    /// Executes the only hart's instruction where it is next and doesn't fault, and says whether it did, appending its
+    /// console byte. If not, nothing is changed.
+    pub fn go_on(&mut self, out: &mut Vec<u8>) -> Result<bool, OutOfMemory>
+        requires empty { out.old.items ≡ [] }
+        requires one_hart { vec_len self.old.contexts ≡ 1 }
+        ensures step { IfOk result (λ moved. MatchBool moved (Turns (state_of self.old) out.new.items (state_of self.new)) ((state_of self.new ≡ state_of self.old) × (out.new.items ≡ []))) }
+        ensures less { IfOk result (λ moved. moved ≡ true → work_left (state_of self.new) < work_left (state_of self.old)) }
+        ensures harts { OnOk result (vec_len self.new.contexts ≡ vec_len self.old.contexts) }
+    {
+        let Some(word) = self.next_word() else {
+            return Ok(false);
+        };
+        let Some(byte) = self.execute_word(word) else {
+            return Ok(false);
+        };
+        push_console(out, byte)?;
+        Ok(true)
     }
 
     /// The mode after the instruction that the hart owes.

@@ -1,11 +1,9 @@
 //! Steps by name, and the turns of a machine with one hart.
 
 use crate::machine::Core;
+use crate::machine::moves::HART;
 use crate::step::AStep;
-use mach_base::{Ending, Hart, OutOfMemory};
-
-/// The only hart.
-const HART: Hart = Hart(0);
+use mach_base::{Ending, OutOfMemory};
 
 impl Core {
     ghost use Rattle.std.specs.Prelude.{◌≡◌, ◌<◌, [], None, OnOk, vec_len};
@@ -32,8 +30,24 @@ impl Core {
         }
     }
 
-    /// Makes the first step that is allowed of taking the interrupt, opening the session, executing, and ending.
+    /// Makes the first step that is allowed of taking the interrupt, opening the session, executing, and ending. An
+    /// instruction that is next and doesn't fault is executed by one look at its word.
     pub fn turn(&mut self, out: &mut Vec<u8>) -> Result<(), OutOfMemory>
+        requires empty { out.old.items ≡ [] }
+        requires one_hart { vec_len self.old.contexts ≡ 1 }
+        requires running { ending_of self.old.mode ≡ None }
+        ensures step { OnOk result (Turns (state_of self.old) out.new.items (state_of self.new)) }
+        ensures less { OnOk result (work_left (state_of self.new) < work_left (state_of self.old)) }
+        ensures harts { OnOk result (vec_len self.new.contexts ≡ vec_len self.old.contexts) }
+    {
+        if self.go_on(out)? {
+            return Ok(());
+        }
+        self.first_step(out)
+    }
+
+    /// The same, step by step.
+    fn first_step(&mut self, out: &mut Vec<u8>) -> Result<(), OutOfMemory>
         requires empty { out.old.items ≡ [] }
         requires one_hart { vec_len self.old.contexts ≡ 1 }
         requires running { ending_of self.old.mode ≡ None }

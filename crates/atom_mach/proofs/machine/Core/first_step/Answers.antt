@@ -8,7 +8,7 @@ use Rattle.atom_mach.proofs.Moved.{made, refused, unmoved}
 use Rattle.atom_mach.proofs.Allowed.{alone_of}
 use Rattle.atom_mach.proofs.FirstSteps.{some_allowed, first_allowed-Intr, first_allowed-Session, first_allowed-Instr, first_allowed-AllHalted, first_allowed-StepLimit}
 use Rattle.atom_mach.proofs.LessWork.{less-Intr, less-Session, less-Instr, less-AllHalted, less-StepLimit}
-use Rattle.atom_mach.proofs.machine.Core.turn.Goals as goal
+use Rattle.atom_mach.proofs.machine.Core.first_step.Goals as goal
 
 pub returns-then-branch-clause-step : goal.returns-then-branch-clause-step
 returns-then-branch-clause-step c =
