@@ -43,7 +43,7 @@ fn words(rt: &HostRuntime) -> io::Result<Vec<String>> {
     Ok(words)
 }
 
-/// Prints the line of a status other than Done. A line that can't be made or printed is left out; the number stays.
+/// Prints the line of a status, if it has one. A line that can't be made or printed is left out; the number stays.
 fn report(rt: &HostRuntime, status: &Status) {
     if let Ok(line) = status_line(rt.alloc(), status) {
         if !line.as_bytes().is_empty() {
