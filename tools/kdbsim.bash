@@ -3,7 +3,7 @@
 _kdbsim() {
     local word=${COMP_WORDS[COMP_CWORD]} kinds=() kind
     case $COMP_CWORD,${COMP_WORDS[1]-},$word in
-    1,*) mapfile -t COMPREPLY < <(compgen -W 'uni run lockstep replay asm elf' -- "$word"); return 0 ;;
+    1,*) mapfile -t COMPREPLY < <(compgen -W 'uni run lockstep replay load asm elf' -- "$word"); return 0 ;;
     *,run,-* | *,lockstep,-*) mapfile -t COMPREPLY < <(compgen -W '--harts= --steps= --rounds=' -- "$word"); compopt -o nospace; return 0 ;;
     *,uni,*) kinds=(img kdb) ;;
     *,run,*) kinds=(img map kdb jrn) ;;

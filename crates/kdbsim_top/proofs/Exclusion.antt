@@ -1,7 +1,7 @@
 -- The causes exclude each other, and right files leave the end of the run.
 use Rattle.std.proofs.Common.{◌≡◌, ℕ, ◌⊎◌, inl, inr, List, [], ◌∷◌, Option, Some, refl, sym, subst}
 use Rattle.io_edge.specs.Edge.{FileMap, HasRisen}
-use Rattle.program_words.specs.Commands.{Command, uni, replay, run, lockstep, asm, elf}
+use Rattle.program_words.specs.Commands.{Command, uni, replay, run, lockstep, asm, elf, load}
 use Rattle.kdbsim_files.specs.declared.status.Status.{Status}
 use Rattle.kdbsim_files.specs.declared.status.Status.TheVariants.{Done, Made, Usage, ReadFault, BadImage, BadMap, BadScript, BadPlan, BadJournal, BadSource, BadElf, TooLarge, BadStep, WriteFault, OutOfMemory}
 use Rattle.kdbsim_files.specs.Faults.{status_of_image, status_of_map, status_of_script, status_of_plan, status_of_journal, status_of_source, status_of_elf}
@@ -24,7 +24,7 @@ use Rattle.kdbsim_files.specs.Laws.{IsRefusal, FilesMeanOneThing, RefusalsAreOne
 use Rattle.kdbsim_files.proofs.Meaning.{refused_by}
 use Rattle.kdbsim_builds.specs.Stored.{Product}
 use Rattle.kdbsim_top.specs.Runs.{Outcome, IsOutcome, AreProducts, IsIllegal, inputs_of}
-use Rattle.kdbsim_top.specs.Causes.{Outside, Explains, IsMade, IsPublished}
+use Rattle.kdbsim_top.specs.Causes.{Outside, FailsReading, Explains, IsMade, IsPublished}
 use Rattle.kdbsim_top.specs.Laws.{AreRight, IsEnd, IsEndOfMaking, IsEndOfRun, IsOfFiles, RefusalsExclude, RightFilesEnd}
 
 -- a run's files are right
@@ -41,6 +41,7 @@ outcome_right files (lockstep image map script plan journal options) out h =
     ((h.start.image, s.read_image), ((h.start.symbols, s.read_map), ((h.start.lines, s.read_script), ((h.runs, h.read_plan), tt))))
 outcome_right files (asm source image) out h = absurd h
 outcome_right files (elf executable image map) out h = absurd h
+outcome_right files (load number) out h = tt
 
 -- the file is right of which a command makes files
 products_right : (files : Option FileMap) (command : Command) (products : List Product) → AreProducts files command products → AreRight files (inputs_of command)
@@ -50,6 +51,7 @@ products_right files (run image map script journal options) products h = absurd 
 products_right files (lockstep image map script plan journal options) products h = absurd h
 products_right files (asm source image) products h = ((h.of.value, h.of.read), tt)
 products_right files (elf executable image map) products h = ((h.of.value, h.of.read), tt)
+products_right files (load number) products h = absurd h
 
 illegal_right : (files : Option FileMap) (command : Command) (index : ℕ) → IsIllegal files command index → AreRight files (inputs_of command)
 illegal_right files (uni image script) index h = absurd h
@@ -60,6 +62,7 @@ illegal_right files (run image map script journal options) index h = absurd h
 illegal_right files (lockstep image map script plan journal options) index h = absurd h
 illegal_right files (asm source image) index h = absurd h
 illegal_right files (elf executable image map) index h = absurd h
+illegal_right files (load number) index h = absurd h
 
 -- right files are not refused
 no_refusal : FilesMeanOneThing → (files : FileMap) (inputs : List Input) (before after : ℕ) (s : Status) → IsRefusal s → AreRight (Some files) inputs → FailsAt (Some files) inputs before after s → ⊥
@@ -79,11 +82,16 @@ made_not o products s is (inl h, quiet) = subst IsRefusal h.0 is
 made_not o products s is (inr (inl h), quiet) = subst IsRefusal h.0 is
 made_not o products s is (inr (inr h), quiet) = subst IsRefusal h.0 is
 
+-- what a refusal says of reading is that a file fails
+refused_reading_file : (files : Option FileMap) (inputs : List Input) (before after : ℕ) (s : Status) → IsRefusal s → FailsReading files inputs before after s → FailsAt files inputs before after s
+refused_reading_file files [] before after s is h = absurd (subst IsRefusal h is)
+refused_reading_file files (input ∷ inputs) before after s is h = h
+
 fails_of : (o : Outside) (command : Command) (s : Status) → IsRefusal s → Explains o command s → FailsAt o.files_before (inputs_of command) o.shelf_before o.shelf_after s
 fails_of o command s is (inl h) = absurd (published_not o h.0 s is h.2)
 fails_of o command s is (inr (inl h)) = absurd (made_not o h.0 s is h.2)
 fails_of o command s is (inr (inr (inl h))) = absurd (subst IsRefusal h.1 is)
-fails_of o command s is (inr (inr (inr h))) = h.0
+fails_of o command s is (inr (inr (inr h))) = refused_reading_file o.files_before (inputs_of command) o.shelf_before o.shelf_after s is h.0
 
 told_fails : (o : Outside) (command : Command) (files : FileMap) (s : Status) → o.files_before ≡ Some files → IsRefusal s → Explains o command s → FailsAt (Some files) (inputs_of command) o.shelf_before o.shelf_after s
 told_fails o command files s told is h = subst (λ fs. FailsAt fs (inputs_of command) o.shelf_before o.shelf_after s) told (fails_of o command s is h)
@@ -173,6 +181,11 @@ refusal_in files [] before after s is h = absurd h
 refusal_in files (input ∷ inputs) before after s is (inl h) = file_refusal files input before after s is h
 refusal_in files (input ∷ inputs) before after s is (inr h) = refusal_in files inputs before after s is h.2
 
+-- so does an answer that the files give
+pub told_reading_file : (files : Option FileMap) (inputs : List Input) (before after : ℕ) (s : Status) → IsOfFiles s → FailsReading files inputs before after s → FailsAt files inputs before after s
+told_reading_file files [] before after s is h = absurd (subst IsOfFiles h is)
+told_reading_file files (input ∷ inputs) before after s is h = h
+
 pub refusals_exclude : FilesMeanOneThing → RefusalsAreOne → RefusalsExclude
 refusals_exclude law one o command files s t told is it hs (inl ran) =
     absurd (no_refusal law files (inputs_of command) o.shelf_before o.shelf_after s is (subst (λ fs. AreRight fs (inputs_of command)) told (outcome_right o.files_before command ran.0 ran.1)) (told_fails o command files s told is hs))
@@ -181,7 +194,8 @@ refusals_exclude law one o command files s t told is it hs (inr (inl made)) =
 refusals_exclude law one o command files s t told is it hs (inr (inr (inl illegal))) =
     absurd (no_refusal law files (inputs_of command) o.shelf_before o.shelf_after s is (subst (λ fs. AreRight fs (inputs_of command)) told (illegal_right o.files_before command illegal.0 illegal.2)) (told_fails o command files s told is hs))
 refusals_exclude law one o command files s t told is it hs (inr (inr (inr other))) =
-    let fails : FailsAt (Some files) (inputs_of command) o.shelf_before o.shelf_after t = subst (λ fs. FailsAt fs (inputs_of command) o.shelf_before o.shelf_after t) told other.0 in
+    let fails : FailsAt (Some files) (inputs_of command) o.shelf_before o.shelf_after t =
+    subst (λ fs. FailsAt fs (inputs_of command) o.shelf_before o.shelf_after t) told (told_reading_file o.files_before (inputs_of command) o.shelf_before o.shelf_after t it other.0) in
     one files (inputs_of command) o.shelf_before o.shelf_after s t is (refusal_in (Some files) (inputs_of command) o.shelf_before o.shelf_after t it fails) (told_fails o command files s told is hs) fails
 
 -- where no count rises and the files are right, only memory fails
@@ -198,6 +212,10 @@ only_memory : FilesMeanOneThing → (files : FileMap) (inputs : List Input) (bef
 only_memory law files [] before after s still right h = absurd h
 only_memory law files (input ∷ inputs) before after s still right (inl h) = right_file law files input right.0.0 before after s still right.0.1 h
 only_memory law files (input ∷ inputs) before after s still right (inr h) = only_memory law files inputs before after s still right.1 h.2
+
+memory_reading : FilesMeanOneThing → (files : FileMap) (inputs : List Input) (before after : ℕ) (s : Status) → ¬ (HasRisen before after) → AreRight (Some files) inputs → FailsReading (Some files) inputs before after s → s ≡ OutOfMemory
+memory_reading law files [] before after s still right h = h
+memory_reading law files (input ∷ inputs) before after s still right h = only_memory law files (input ∷ inputs) before after s still right h
 
 written_end : (o : Outside) (out : Outcome) (s : Status) → ¬ (HasRisen o.shelf_before o.shelf_after) → ¬ (HasRisen o.sink_before o.sink_after) → IsPublished o out s → IsEndOfRun s
 written_end o out s shelf sink (inl h) = subst IsEndOfRun (sym h.0) tt
@@ -218,6 +236,7 @@ run_ends files (run image map script journal options) out s h e = e
 run_ends files (lockstep image map script plan journal options) out s h e = e
 run_ends files (asm source image) out s h e = absurd h
 run_ends files (elf executable image map) out s h e = absurd h
+run_ends files (load number) out s h e = e
 
 making_ends : (files : Option FileMap) (command : Command) (products : List Product) (s : Status) → AreProducts files command products → IsEndOfMaking s → IsEnd command s
 making_ends files (uni image script) products s h e = absurd h
@@ -226,6 +245,7 @@ making_ends files (run image map script journal options) products s h e = absurd
 making_ends files (lockstep image map script plan journal options) products s h e = absurd h
 making_ends files (asm source image) products s h e = e
 making_ends files (elf executable image map) products s h e = e
+making_ends files (load number) products s h e = absurd h
 
 bad_step_ends : (files : Option FileMap) (command : Command) (index : ℕ) → IsIllegal files command index → IsEnd command (BadStep index)
 bad_step_ends files (uni image script) index h = absurd h
@@ -234,6 +254,7 @@ bad_step_ends files (run image map script journal options) index h = absurd h
 bad_step_ends files (lockstep image map script plan journal options) index h = absurd h
 bad_step_ends files (asm source image) index h = absurd h
 bad_step_ends files (elf executable image map) index h = absurd h
+bad_step_ends files (load number) index h = absurd h
 
 memory_ends : (command : Command) → IsEnd command OutOfMemory
 memory_ends (uni image script) = tt
@@ -242,10 +263,11 @@ memory_ends (run image map script journal options) = tt
 memory_ends (lockstep image map script plan journal options) = tt
 memory_ends (asm source image) = tt
 memory_ends (elf executable image map) = tt
+memory_ends (load number) = tt
 
 pub right_files_end : FilesMeanOneThing → RightFilesEnd
 right_files_end law o command files s told right shelf sink (inl h) = run_ends o.files_before command h.0 s h.1 (written_end o h.0 s shelf sink h.2)
 right_files_end law o command files s told right shelf sink (inr (inl h)) = making_ends o.files_before command h.0 s h.1 (made_end o h.0 s shelf h.2)
 right_files_end law o command files s told right shelf sink (inr (inr (inl h))) = subst (IsEnd command) (sym h.1) (bad_step_ends o.files_before command h.0 h.2)
 right_files_end law o command files s told right shelf sink (inr (inr (inr h))) =
-    subst (IsEnd command) (sym (only_memory law files (inputs_of command) o.shelf_before o.shelf_after s shelf right (subst (λ fs. FailsAt fs (inputs_of command) o.shelf_before o.shelf_after s) told h.0))) (memory_ends command)
+    subst (IsEnd command) (sym (memory_reading law files (inputs_of command) o.shelf_before o.shelf_after s shelf right (subst (λ fs. FailsReading fs (inputs_of command) o.shelf_before o.shelf_after s) told h.0))) (memory_ends command)

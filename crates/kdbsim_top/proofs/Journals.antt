@@ -8,7 +8,7 @@ use Rattle.bus_core.specs.Origin.{Origin, start_of}
 use Rattle.kdbsim_runs.specs.Replay.{IsBadStep}
 use Rattle.kdbsim_runs.proofs.Endings.{split}
 use Rattle.program_words.specs.Words.{Text}
-use Rattle.program_words.specs.Commands.{Command, uni, replay, run, lockstep, asm, elf}
+use Rattle.program_words.specs.Commands.{Command, uni, replay, run, lockstep, asm, elf, load}
 use Rattle.kdbsim_files.specs.declared.status.Status.{Status}
 use Rattle.kdbsim_files.specs.declared.status.Status.TheVariants.{BadStep}
 use Rattle.kdbsim_files.specs.Files.{Recording, image_file, map_file, script_file, journal_file}
@@ -16,7 +16,7 @@ use Rattle.kdbsim_files.specs.Laws.{FilesMeanOneThing}
 use Rattle.kdbsim_top.specs.Runs.{Outcome, IsIllegal, IsIllegalAt, IsJournaled, inputs_of}
 use Rattle.kdbsim_builds.specs.Stored.{Product}
 use Rattle.kdbsim_top.specs.Causes.{Outside, Explains, IsMade, IsPublished}
-use Rattle.kdbsim_top.proofs.Exclusion.{refusal_in}
+use Rattle.kdbsim_top.proofs.Exclusion.{refusal_in, told_reading_file}
 
 -- ---- lists of entries
 
@@ -129,7 +129,7 @@ illegal_of : (o : Outside) (command : Command) (index : ℕ) → Explains o comm
 illegal_of o command index (inl h) = absurd (not_published o h.0 index h.2)
 illegal_of o command index (inr (inl h)) = absurd (not_made o h.0 index h.2)
 illegal_of o command index (inr (inr (inl h))) = subst (IsIllegal o.files_before command) (sym (ap bad_index h.1)) h.2
-illegal_of o command index (inr (inr (inr h))) = absurd (refusal_in o.files_before (inputs_of command) o.shelf_before o.shelf_after (BadStep index) tt h.0)
+illegal_of o command index (inr (inr (inr h))) = absurd (refusal_in o.files_before (inputs_of command) o.shelf_before o.shelf_after (BadStep index) tt (told_reading_file o.files_before (inputs_of command) o.shelf_before o.shelf_after (BadStep index) tt h.0))
 
 told_illegal : (o : Outside) (command : Command) (files : FileMap) (index : ℕ) → o.files_before ≡ Some files → Explains o command (BadStep index) → IsIllegal (Some files) command index
 told_illegal o command files index told h = subst (λ f. IsIllegal f command index) told (illegal_of o command index h)
@@ -146,6 +146,7 @@ two_bad law files (run image map script journal options) index other a b = absur
 two_bad law files (lockstep image map script plan journal options) index other a b = absurd a
 two_bad law files (asm source image) index other a b = absurd a
 two_bad law files (elf executable image map) index other a b = absurd a
+two_bad law files (load number) index other a b = absurd a
 two_bad law files (replay image map script journal) index other a b =
     one_place a.start a.entries index other a.bad (moved law files image map script journal a.start b.start a.entries b.entries a.inputs b.inputs other b.bad)
 

@@ -1,18 +1,18 @@
 -- The cause of an answer, by what the stages before it did.
-use Rattle.std.proofs.Common.{◌≡◌, ◌≢◌, ℕ, ◌≤◌, inl, inr, Bool, true, false, not, List, Option, Some, None, refl, sym, subst}
+use Rattle.std.proofs.Common.{◌≡◌, ◌≢◌, ℕ, ◌≤◌, inl, inr, Bool, true, false, not, List, [], ◌∷◌, Option, Some, None, refl, sym, subst}
 use Rattle.std.specs.Str.{bytes_eq}
 use Rattle.std.proofs.lemmas.Slice.Eq.{bytes_eq-Decides}
 use Rattle.io_edge.specs.Edge.{FileMap}
 use Rattle.program_words.specs.Words.{Text}
-use Rattle.program_words.specs.Commands.{Command, uni, replay, run, lockstep, asm, elf}
+use Rattle.program_words.specs.Commands.{Command, uni, replay, run, lockstep, asm, elf, load}
 use Rattle.kdbsim_files.specs.declared.status.Status.{Status}
 use Rattle.kdbsim_files.specs.declared.status.Status.TheVariants.{Usage, OutOfMemory}
-use Rattle.kdbsim_files.specs.Files.{FailsAt, source_file, elf_file}
+use Rattle.kdbsim_files.specs.Files.{Input, FailsAt, source_file, elf_file}
 use Rattle.kdbsim_builds.specs.Stored.{ShelfCall}
 use Rattle.kdbsim_builds.specs.Builds.{ExplainsBuild, IsAssembled, IsConverted}
 use Rattle.kdbsim_top.specs.Runs.{Outcome, IsOutcome, inputs_of, is_run}
 use Rattle.kdbsim_top.specs.Stages.{FailsReplay}
-use Rattle.kdbsim_top.specs.Causes.{Outside, IsQuiet, IsPublished, Explains, IsAnswer, IsAnswerAlone}
+use Rattle.kdbsim_top.specs.Causes.{Outside, FailsReading, IsQuiet, IsPublished, Explains, IsAnswer, IsAnswerAlone}
 
 abbrev pub outside : Option FileMap → Option FileMap → ℕ → ℕ → Option (List ℕ) → Option (List ℕ) → ℕ → ℕ → Outside
 outside f0 f1 n0 n1 t0 t1 k0 k1 = record {
@@ -34,8 +34,12 @@ pub published : (command : Command) (f0 f1 f2 : Option FileMap) (n0 n1 n2 : ℕ)
     → ((before : ℕ) → before ≤ n1 → IsPublished (outside f1 f2 before n2 t0 t1 k0 k1) out status) → Explains (outside f0 f2 n0 n2 t0 t1 k0 k1) command status
 published command f0 f1 f2 n0 n1 n2 t0 t1 k0 k1 out status same le ran p = inl (out, ran, subst (λ f. IsPublished (outside f f2 n0 n2 t0 t1 k0 k1) out status) same (p n0 le))
 
+fails_reading : (files : Option FileMap) (inputs : List Input) (before after : ℕ) (status : Status) → FailsAt files inputs before after status → FailsReading files inputs before after status
+fails_reading files [] before after status h = absurd h
+fails_reading files (input ∷ inputs) before after status h = h
+
 pub failed : (command : Command) (f0 f1 : Option FileMap) (n0 n1 : ℕ) (t : Option (List ℕ)) (k : ℕ) (status : Status) → f1 ≡ f0 → FailsAt f0 (inputs_of command) n0 n1 status → Explains (outside f0 f1 n0 n1 t t k k) command status
-failed command f0 f1 n0 n1 t k status same h = inr (inr (inr (h, record { files = same; taken = refl })))
+failed command f0 f1 n0 n1 t k status same h = inr (inr (inr (fails_reading f0 (inputs_of command) n0 n1 status h, record { files = same; taken = refl })))
 
 pub replay_failed : (image map script journal : Text) (f0 f1 : Option FileMap) (n0 n1 : ℕ) (t : Option (List ℕ)) (k : ℕ) (status : Status) → f1 ≡ f0 → FailsReplay f0 image map script journal n0 n1 status
     → Explains (outside f0 f1 n0 n1 t t k k) (replay image map script journal) status
@@ -64,13 +68,18 @@ names_apart image map apart same = differs (bytes_eq image map) apart ((bytes_eq
     differs true e f = absurd (cc)
     differs false e f = absurd (cc)
 
-lacks_memory : (files : Option FileMap) (command : Command) (before after : ℕ) → FailsAt files (inputs_of command) before after OutOfMemory
+lacks_memory : (files : Option FileMap) (command : Command) (before after : ℕ) → FailsReading files (inputs_of command) before after OutOfMemory
 lacks_memory files (uni image script) before after = inl (inr (inr refl))
 lacks_memory files (replay image map script journal) before after = inl (inr (inr refl))
 lacks_memory files (run image map script journal options) before after = inl (inr (inr refl))
 lacks_memory files (lockstep image map script plan journal options) before after = inl (inr (inr refl))
 lacks_memory files (asm source image) before after = inl (inr (inr refl))
 lacks_memory files (elf executable image map) before after = inl (inr (inr refl))
+lacks_memory files (load number) before after = refl
+
+-- a command that reads no file lacks memory
+pub lacking : (number : ℕ) (f : Option FileMap) (n : ℕ) (t : Option (List ℕ)) (k : ℕ) → Explains (outside f f n n t t k k) (load number) OutOfMemory
+lacking number f n t k = inr (inr (inr (refl, record { files = refl; taken = refl })))
 
 -- memory may run out before anything is read
 pub memory_answer : (o : Outside) (command : Option Command) → IsQuiet o → IsAnswer o command OutOfMemory

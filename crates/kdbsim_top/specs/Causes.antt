@@ -1,11 +1,11 @@
 -- The cause of each answer of the top call.
-use Rattle.std.specs.Prelude.{◌≡◌, ℕ, ◌⊎◌, true, false, List, ◌++◌, Option, Some, None}
+use Rattle.std.specs.Prelude.{◌≡◌, ℕ, ◌⊎◌, true, false, List, [], ◌∷◌, ◌++◌, Option, Some, None}
 use Rattle.std.specs.Option.{option_map}
 use Rattle.std.specs.FinMap.{insert}
 use Rattle.io_edge.specs.Edge.{FileMap, HasRisen, HasTakenPart, KeepsOthers}
 use Rattle.program_words.specs.Words.{Text}
 use Rattle.program_words.specs.Commands.{Command}
-use Rattle.kdbsim_files.specs.Files.{FailsAt}
+use Rattle.kdbsim_files.specs.Files.{Input, FailsAt}
 use Rattle.kdbsim_files.specs.declared.status.Status.{Status}
 use Rattle.kdbsim_files.specs.declared.status.Status.TheVariants.{Done, Usage, BadStep, WriteFault, OutOfMemory}
 use Rattle.kdbsim_builds.specs.Stored.{Product, ShelfCall, IsStored}
@@ -74,15 +74,20 @@ shelf_call o = record {
 abbrev pub IsMade : Outside → List Product → Status → Type 0
 IsMade o products status = IsStored (shelf_call o) products status × (o.taken_after ≡ o.taken_before)
 
+-- why a command came to nothing: one of its files fails; one that reads none only lacks memory
+abbrev pub FailsReading : Option FileMap → List Input → ℕ → ℕ → Status → Type 0
+FailsReading files [] before after status = status ≡ OutOfMemory
+FailsReading files (input ∷ inputs) before after status = FailsAt files (input ∷ inputs) before after status
+
 -- The cause of each answer to a command, what must have been so for it to come: the outcome of its run was to be written, or
 -- the files that it makes were; or nothing was written, and an entry of the journal that it replays isn't legal, or one of
--- the files that it reads fails.
+-- the files that it reads fails. A command that reads no file may lack memory in place of that.
 abbrev pub Explains : Outside → Command → Status → Type 0
 Explains o command status =
     ((out : Outcome) × IsOutcome o.files_before command out × IsPublished o out status)
     ⊎ ((products : List Product) × AreProducts o.files_before command products × IsMade o products status)
     ⊎ ((index : ℕ) × (status ≡ BadStep index) × IsIllegal o.files_before command index × IsQuiet o)
-    ⊎ (FailsAt o.files_before (inputs_of command) o.shelf_before o.shelf_after status × IsQuiet o)
+    ⊎ (FailsReading o.files_before (inputs_of command) o.shelf_before o.shelf_after status × IsQuiet o)
 
 -- the answer to words that are no command
 abbrev pub IsNoCommand : Outside → Status → Type 0

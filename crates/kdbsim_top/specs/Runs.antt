@@ -17,9 +17,12 @@ use Rattle.kdbsim_runs.specs.Record.{IsRecord, ending_in}
 use Rattle.kdbsim_runs.specs.Replay.{IsBadStep}
 use Rattle.kdbsim_runs.specs.Lockstep.{IsTicked}
 use Rattle.program_words.specs.Words.{Text}
-use Rattle.program_words.specs.Commands.{Command, uni, replay, run, lockstep, asm, elf}
+use Rattle.program_words.specs.Commands.{Command, uni, replay, run, lockstep, asm, elf, load}
 use Rattle.program_words.specs.declared.request.Options.{Options}
 use Rattle.kdbsim_files.specs.Files.{Input, HasFile, image_file, map_file, script_file, plan_file, journal_file, source_file, elf_file}
+use Rattle.kdbsim_load.specs.declared.told.LoadTold.{LoadTold}
+use Rattle.kdbsim_load.specs.Load.{IsLoad}
+use Rattle.kdbsim_load.specs.Counts.{load_line}
 use Rattle.kdbsim_builds.specs.Stored.{Product}
 use Rattle.kdbsim_builds.specs.Builds.{IsAssembled, IsConverted}
 
@@ -40,6 +43,7 @@ inputs_of (run image map script journal options) = start_inputs image map script
 inputs_of (lockstep image map script plan journal options) = start_inputs image map script (record { kind = plan_file options.harts; name = plan } ∷ [])
 inputs_of (asm source image) = record { kind = source_file; name = source } ∷ []
 inputs_of (elf executable image map) = record { kind = elf_file; name = executable } ∷ []
+inputs_of (load number) = []
 
 -- What a run comes to: how it ended, its transcript, and the journal that is to be written, if one is, with its name.
 pub record Outcome : Type 0 where
@@ -113,6 +117,14 @@ pub record IsRun (files : Option FileMap) (image map script journal : Text) (opt
   pub recorded : IsRecorded files image map script journal options start entries out
   pub ends : ending_in entries ≡ Some out.ending
 
+-- the outcome of load: no journal, and for a text the line that tells of the run of the input that the number says
+pub record IsLoaded (number : ℕ) (out : Outcome) : Type 0 where
+  pub told : LoadTold
+  pub loaded : IsLoad number told
+  pub ending_is : out.ending ≡ told.ending
+  pub text_is : out.text ≡ load_line number told
+  pub no_journal : out.journal ≡ None
+
 -- the outcome of a command; one that runs no machine has none
 abbrev pub IsOutcome : Option FileMap → Command → Outcome → Type 0
 IsOutcome files (uni image script) out = IsUniRun files image script out
@@ -121,6 +133,7 @@ IsOutcome files (run image map script journal options) out = IsRun files image m
 IsOutcome files (lockstep image map script plan journal options) out = IsLockstep files image map script plan journal options out
 IsOutcome files (asm source image) out = ⊥
 IsOutcome files (elf executable image map) out = ⊥
+IsOutcome files (load number) out = IsLoaded number out
 
 -- what a command that makes files is to write; the others make none
 abbrev pub AreProducts : Option FileMap → Command → List Product → Type 0

@@ -9,7 +9,7 @@ ghost use Rattle.bus_core.specs.Origin.{Origin};
 ghost use Rattle.kdbsim_runs.specs.Record.{IsRecord};
 ghost use Rattle.kdbsim_files.specs.Files.{FailsAt};
 ghost use Rattle.kdbsim_files.specs.declared.status.Status.TheVariants.{OutOfMemory as NoMemory};
-ghost use Rattle.kdbsim_top.specs.Runs.{IsUniRun, IsReplayed, IsLockstep, IsRun, inputs_of};
+ghost use Rattle.kdbsim_top.specs.Runs.{IsUniRun, IsReplayed, IsLockstep, IsRun, IsLoaded, inputs_of};
 ghost use Rattle.kdbsim_top.specs.Stages.{FailsReplay, IsThreadedRecord, IsTickedRecord, outcome, journaled, origin_of};
 
 use crate::inputs::{Start, StartNames, read_start};
@@ -18,6 +18,7 @@ use bus_core::Core;
 use deck_core::Pause;
 use io_edge::Shelf;
 use kdbsim_files::{Status, image_input, journal_input, plan_input, script_input};
+use kdbsim_load::{push_load_line, run_load};
 use kdbsim_runs::{
     Pace, ReplayFault, Told, record_of, replay, run_plan_of, run_threads, write_record,
 };
@@ -197,4 +198,17 @@ fn pace_of(options: Options) -> Pace
         limit: options.steps,
         rounds: options.rounds,
     }
+}
+
+/// Runs the input that the number says; its transcript is the line that tells of the run.
+pub fn load(alloc: Global, number: u32) -> Result<Told, OutOfMemory>
+    ensures { IfOk result (λ told. IsLoaded number (outcome told.ending told.transcript.items)) }
+{
+    let told = run_load(alloc, number)?;
+    let mut transcript = Vec::new(alloc);
+    push_load_line(&mut transcript, number, told)?;
+    Ok(Told {
+        ending: told.ending,
+        transcript,
+    })
 }

@@ -1,6 +1,7 @@
 //! The top call.
 ghost use Rattle.std.specs.Prelude.{◌≡◌, ℕ, List, Option, true, false, map, None, MatchOption};
 ghost use Rattle.std.specs.String.{string_bytes};
+ghost use Rattle.io_edge.specs.Edge.{FileMap};
 ghost use Rattle.program_words.specs.Commands.{command_of, writes_apart};
 ghost use Rattle.program_words.specs.Commands as words;
 ghost use Rattle.program_words.specs.Laws.{AreWithin, IsCommandWithin};
@@ -9,13 +10,14 @@ ghost use Rattle.kdbsim_files.specs.declared.status.Status.TheVariants.{Usage};
 ghost use Rattle.kdbsim_top.specs.Causes.{Explains, IsAnswer, IsAnswerAlone, IsForThreads};
 ghost use Rattle.kdbsim_top.specs.Runs.{is_run};
 
-use crate::commands::{lockstep, replay_files, run_files, uni};
+use crate::commands::{load, lockstep, replay_files, run_files, uni};
 use crate::inputs::StartNames;
 use crate::publish::{print, publish};
 use deck_core::Pause;
 use io_edge::{Shelf, Sink};
 use kdbsim_builds::{assemble, convert};
 use kdbsim_files::Status;
+use mach_base::OutOfMemory;
 use program_words::{Command, Options, WordsFault, command_of};
 use std::alloc::Global;
 use std::sync::Wait;
@@ -155,6 +157,7 @@ fn answer<F: Shelf, O: Sink>(
             image,
             map,
         } => answer_elf(alloc, shelf, executable, image, map),
+        Command::Load { number } => answer_load(alloc, out, number),
         Command::Run { .. } => unreachable!(),
     }
 }
@@ -275,6 +278,25 @@ fn answer_elf<F: Shelf>(
     }) (words.elf executable.now image.now map.now) result }
 {
     convert(alloc, shelf, executable, image, map)
+}
+
+/// The command `load`, which calls the shelf for nothing.
+fn answer_load<O: Sink>(alloc: Global, out: &mut O, number: u32) -> Status
+    ensures { (files : Option FileMap) (count : ℕ) → Explains (record {
+      files_before = files;
+      files_after = files;
+      shelf_before = count;
+      shelf_after = count;
+      taken_before = O.taken out.old;
+      taken_after = O.taken out.new;
+      sink_before = O.faults out.old;
+      sink_after = O.faults out.new;
+    }) (words.load number) result }
+{
+    match load(alloc, number) {
+        Ok(told) => print(out, told),
+        Err(OutOfMemory) => Status::OutOfMemory,
+    }
 }
 
 /// The command `run`.

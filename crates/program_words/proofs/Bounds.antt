@@ -9,8 +9,8 @@ use Rattle.clap.proofs.WalkLemmas.{both}
 use Rattle.program_words.specs.Words.{Text, Parameter, Row, Item, operand, option, Argument, argument, arguments, arguments_of, items, fits, is_given, is_number_in, operands_after, parameter_of, value_of, with_argument}
 use Rattle.mach_base.specs.declared.limits.TheConstants.{MOST_HARTS, MOST_ROUNDS, MOST_STEPS}
 use Rattle.program_words.specs.Rows.{asm_row, command_rows, elf_row, load_row, lockstep_row, replay_row, run_row, uni_row}
-use Rattle.program_words.specs.Commands.{Request, Values, asm, command, elf, load, lockstep, number_or, number_to, options_of, replay, request_from, run, uni}
-use Rattle.program_words.specs.Laws.{AreWithin, IsWithin, RequestsAreWithin}
+use Rattle.program_words.specs.Commands.{Command, Values, asm, elf, load, lockstep, number_or, number_to, options_of, replay, request_from, run, uni}
+use Rattle.program_words.specs.Laws.{AreWithin, IsCommandWithin, RequestsAreWithin}
 use Rattle.program_words.proofs.RowRules.{bytes_eq-same, or_false}
 
 -- the argument is one of these parameters, and fits it
@@ -113,12 +113,12 @@ number_within values name low high most default least greatest fit = go (values 
 
 -- ---- requests
 
-with_value_within : (o : Option Text) (make : Text → Option Request) (r : Request) → ((t : Text) → make t ≡ Some r → IsWithin r) → option_and_then make o ≡ Some r → IsWithin r
+with_value_within : (o : Option Text) (make : Text → Option Command) (r : Command) → ((t : Text) → make t ≡ Some r → IsCommandWithin r) → option_and_then make o ≡ Some r → IsCommandWithin r
 with_value_within None make r within e = absurd (cc)
 with_value_within (Some t) make r within e = within t e
 
-made_within : (made r : Request) → IsWithin made → Some made ≡ Some r → IsWithin r
-made_within made r within e = let same : made ≡ r = cc in subst IsWithin same within
+made_within : (made r : Command) → IsCommandWithin made → Some made ≡ Some r → IsCommandWithin r
+made_within made r within e = let same : made ≡ r = cc in subst IsCommandWithin same within
 
 -- the options of the arguments that fit
 options_within : (row : Row) (given : List Argument) → all_fit row given ≡ true
@@ -136,17 +136,17 @@ options_within row given all harts steps rounds =
 
 -- the requests of a row are within their bounds
 abbrev pub IsRowWithin : Row → Type 0
-IsRowWithin row = (given : List Argument) (r : Request) → all_fit row given ≡ true → request_from row given ≡ Some r → IsWithin r
+IsRowWithin row = (given : List Argument) (r : Command) → all_fit row given ≡ true → request_from row given ≡ Some r → IsCommandWithin r
 
 uni_within : IsRowWithin uni_row
 uni_within given r all e =
-    with_value_within (argument (codes "image") given) _ r (λ image. with_value_within (argument (codes "script") given) _ r (λ script. made_within (command (uni image script)) r tt)) e
+    with_value_within (argument (codes "image") given) _ r (λ image. with_value_within (argument (codes "script") given) _ r (λ script. made_within (uni image script) r tt)) e
 
 replay_within : IsRowWithin replay_row
 replay_within given r all e =
     with_value_within (argument (codes "image") given) _ r (λ image. with_value_within (argument (codes "map") given) _ r
     (λ map. with_value_within (argument (codes "script") given) _ r (λ script. with_value_within (argument (codes "journal") given) _ r
-    (λ journal. made_within (command (replay image map script journal)) r tt)))) e
+    (λ journal. made_within (replay image map script journal) r tt)))) e
 
 run_within : IsRowWithin run_row
 run_within given r all e =
@@ -154,7 +154,7 @@ run_within given r all e =
     options_within run_row given all (λ t h. sym (or_false _) ∙ h) (λ t h. sym (or_false _) ∙ h) (λ t h. sym (or_false _) ∙ h) in
     with_value_within (argument (codes "image") given) _ r (λ image. with_value_within (argument (codes "map") given) _ r
     (λ map. with_value_within (argument (codes "script") given) _ r (λ script. with_value_within (argument (codes "journal") given) _ r
-    (λ journal. made_within (command (run image map script journal (options_of (λ name. argument name given)))) r options)))) e
+    (λ journal. made_within (run image map script journal (options_of (λ name. argument name given))) r options)))) e
 
 lockstep_within : IsRowWithin lockstep_row
 lockstep_within given r all e =
@@ -163,16 +163,16 @@ lockstep_within given r all e =
     with_value_within (argument (codes "image") given) _ r (λ image. with_value_within (argument (codes "map") given) _ r
     (λ map. with_value_within (argument (codes "script") given) _ r (λ script. with_value_within (argument (codes "plan") given) _ r
     (λ plan. with_value_within (argument (codes "journal") given) _ r
-    (λ journal. made_within (command (lockstep image map script plan journal (options_of (λ name. argument name given)))) r options))))) e
+    (λ journal. made_within (lockstep image map script plan journal (options_of (λ name. argument name given))) r options))))) e
 
 asm_within : IsRowWithin asm_row
 asm_within given r all e =
-    with_value_within (argument (codes "source") given) _ r (λ source. with_value_within (argument (codes "image") given) _ r (λ image. made_within (command (asm source image)) r tt)) e
+    with_value_within (argument (codes "source") given) _ r (λ source. with_value_within (argument (codes "image") given) _ r (λ image. made_within (asm source image) r tt)) e
 
 elf_within : IsRowWithin elf_row
 elf_within given r all e =
     with_value_within (argument (codes "elf") given) _ r (λ executable. with_value_within (argument (codes "image") given) _ r
-    (λ image. with_value_within (argument (codes "map") given) _ r (λ map. made_within (command (elf executable image map)) r tt))) e
+    (λ image. with_value_within (argument (codes "map") given) _ r (λ map. made_within (elf executable image map) r tt))) e
 
 number_fits : (given : List Argument) (t : Text) → all_fit load_row given ≡ true → argument (codes "number") given ≡ Some t → is_number_in 0 4294967295 t ≡ true
 number_fits given t all e = sym (or_false _) ∙ (sym (or_false _) ∙ argument_fits load_row given (codes "number") t all e)
@@ -180,13 +180,13 @@ number_fits given t all e = sym (or_false _) ∙ (sym (or_false _) ∙ argument_
 load_within : IsRowWithin load_row
 load_within given r all e = go (argument (codes "number") given) (λ t. number_fits given t all) e
   where
-    read : (t : Text) (b : Bool) → is_number_in 0 4294967295 t ≡ true → option_map (λ n. load n) (cond b (Some (digits_value 10 (without_leading_plus t))) None) ≡ Some r → IsWithin r
+    read : (t : Text) (b : Bool) → is_number_in 0 4294967295 t ≡ true → option_map (λ n. load n) (cond b (Some (digits_value 10 (without_leading_plus t))) None) ≡ Some r → IsCommandWithin r
     read t true h f = made_within (load (digits_value 10 (without_leading_plus t))) r (leb-true _ _ (both _ _ (both _ _ h).1).1) f
     read t false h f = absurd (cc)
 
-    go : (o : Option Text) → ((t : Text) → o ≡ Some t → is_number_in 0 4294967295 t ≡ true) → option_map (λ n. load n) (option_and_then (number_to 18446744073709551615) o) ≡ Some r → IsWithin r
+    go : (o : Option Text) → ((t : Text) → o ≡ Some t → is_number_in 0 4294967295 t ≡ true) → option_map (λ n. load n) (option_and_then (number_to 4294967295) o) ≡ Some r → IsCommandWithin r
     go None h f = absurd (cc)
-    go (Some t) h f = read t (is_number_in 0 18446744073709551615 t) (h t refl) f
+    go (Some t) h f = read t (is_number_in 0 4294967295 t) (h t refl) f
 
 more_within : (q : Row) (table : List Row) → IsRowWithin q → ((word : Text) (row : Row) → find (λ r. bytes_eq r.word word) table ≡ Some row → IsRowWithin row)
     → (word : Text) (row : Row) → find (λ r. bytes_eq r.word word) (q ∷ table) ≡ Some row → IsRowWithin row
@@ -208,17 +208,17 @@ rows_within =
     (more_within asm_row (elf_row ∷ load_row ∷ []) asm_within
     (more_within elf_row (load_row ∷ []) elf_within (more_within load_row [] load_within none_within))))))
 
-given_within : (row : Row) (words : List Text) (r : Request) → IsRowWithin row
-    → option_and_then (λ (q : Row × List Argument). request_from q.0 q.1) (option_map (λ (g : List Argument). (row, g)) (arguments_of row words)) ≡ Some r → IsWithin r
+given_within : (row : Row) (words : List Text) (r : Command) → IsRowWithin row
+    → option_and_then (λ (q : Row × List Argument). request_from q.0 q.1) (option_map (λ (g : List Argument). (row, g)) (arguments_of row words)) ≡ Some r → IsCommandWithin r
 given_within row words r within e = go (items None words) e
   where
     fit : (is : List Item) (o : Option (List Argument)) → arguments row [] 0 is ≡ o
-        → option_and_then (λ (q : Row × List Argument). request_from q.0 q.1) (option_map (λ (g : List Argument). (row, g)) o) ≡ Some r → IsWithin r
+        → option_and_then (λ (q : Row × List Argument). request_from q.0 q.1) (option_map (λ (g : List Argument). (row, g)) o) ≡ Some r → IsCommandWithin r
     fit is None a f = absurd (cc)
     fit is (Some given) a f = within given r (arguments_fit row is [] given 0 refl a) f
 
     go : (o : Option (List Item))
-        → option_and_then (λ (q : Row × List Argument). request_from q.0 q.1) (option_map (λ (g : List Argument). (row, g)) (option_and_then (arguments row [] 0) o)) ≡ Some r → IsWithin r
+        → option_and_then (λ (q : Row × List Argument). request_from q.0 q.1) (option_map (λ (g : List Argument). (row, g)) (option_and_then (arguments row [] 0) o)) ≡ Some r → IsCommandWithin r
     go None f = absurd (cc)
     go (Some is) f = fit is (arguments row [] 0 is) refl f
 
@@ -227,6 +227,6 @@ requests_are_within [] r e = absurd (cc)
 requests_are_within (word ∷ words) r e = go (find (λ q. bytes_eq q.word word) command_rows) refl e
   where
     go : (o : Option Row) → find (λ q. bytes_eq q.word word) command_rows ≡ o
-        → option_and_then (λ (q : Row × List Argument). request_from q.0 q.1) (option_and_then (λ (row : Row). option_map (λ (g : List Argument). (row, g)) (arguments_of row words)) o) ≡ Some r → IsWithin r
+        → option_and_then (λ (q : Row × List Argument). request_from q.0 q.1) (option_and_then (λ (row : Row). option_map (λ (g : List Argument). (row, g)) (arguments_of row words)) o) ≡ Some r → IsCommandWithin r
     go None found f = absurd (cc)
     go (Some row) found f = given_within row words r (rows_within word row found) f

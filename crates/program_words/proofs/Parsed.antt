@@ -22,7 +22,7 @@ use Rattle.clap.specs.declared.parser.matches.ArgMatches.TheViews.{out-ArgMatche
 use Rattle.clap.proofs.WalkLemmas.{both}
 use Rattle.program_words.specs.Words.{Text, Parameter, Row, Argument, argument, row_and_arguments}
 use Rattle.program_words.specs.Rows.{command_rows, uni_row, replay_row, run_row, lockstep_row, asm_row, elf_row, load_row}
-use Rattle.program_words.specs.Commands.{Request, request_from, request_of, request_with}
+use Rattle.program_words.specs.Commands.{Command, request_from, request_of, request_with}
 use Rattle.program_words.specs.Parser.{program, row_of, rows, rows_of_words}
 use Rattle.program_words.specs.Views.{request_in}
 use Rattle.program_words.proofs.RowRules.{are_distinct, by_name, by_own_id, by_place, optional, placed, row_rules}
@@ -150,7 +150,7 @@ one_of-rows name (a ∷ given) = go (bytes_eq a.0 name) (one_of-rows name given)
     go false e = e
 
 -- the request of what was found for a command's word
-abbrev asked : Text × List Found → Option Request
+abbrev asked : Text × List Found → Option Command
 asked r = request_with r.0 (λ name. first_of name r.1) (λ name. one_of name r.1)
 
 asked_is : (r : Row × List Argument) → asked (rows_of_words r) ≡ request_from r.0 r.1

@@ -4,7 +4,7 @@ use Rattle.std.specs.List.{list_all}
 use Rattle.clap.proofs.WalkLemmas.{both}
 use Rattle.program_words.specs.Words.{Text, Kind, plain, dashes, named, unknown, kind, Row, Item, operand, Argument, and_then_items, arguments, is_given, items, items_from}
 use Rattle.program_words.specs.Rows.{uni_row}
-use Rattle.program_words.specs.Commands.{built, request_from}
+use Rattle.program_words.specs.Commands.{set_apart, request_from}
 use Rattle.program_words.specs.Laws.{UniTakesTwoFiles, WrongUses, is_plain, is_plain_kind, uni_of}
 
 and_false : (b : Bool) → (b && false) ≡ false
@@ -36,7 +36,7 @@ items_plain [] all = refl
 items_plain (word ∷ words) all = item_plain (kind word) word words (λ wanting. items wanting words) (both _ _ all).0 (items_plain words (both _ _ all).1)
 
 uni_arguments : (words : List Text)
-    → option_and_then built (option_and_then (λ (given : List Argument). request_from uni_row given) (arguments uni_row [] 0 (map operand words))) ≡ uni_of words
+    → option_and_then set_apart (option_and_then (λ (given : List Argument). request_from uni_row given) (arguments uni_row [] 0 (map operand words))) ≡ uni_of words
 unfolding arguments
 uni_arguments [] = refl
 uni_arguments (image ∷ []) = refl
@@ -50,6 +50,6 @@ uni_row_found (Some g) = refl
 
 pub uni_takes_two_files : UniTakesTwoFiles
 uni_takes_two_files words all =
-    ap (option_and_then built) (uni_row_found (option_and_then (arguments uni_row [] 0) (items None words))
+    ap (option_and_then set_apart) (uni_row_found (option_and_then (arguments uni_row [] 0) (items None words))
     ∙ ap (λ (is : Option (List Item)). option_and_then (λ (g : List Argument). request_from uni_row g) (option_and_then (arguments uni_row [] 0) is)) (items_plain words all))
     ∙ uni_arguments words

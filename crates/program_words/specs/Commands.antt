@@ -6,7 +6,7 @@ use Rattle.program_words.specs.declared.request.Options.{Options}
 use Rattle.program_words.specs.Words.{Text, Row, Argument, argument, is_number_in, row_and_arguments}
 use Rattle.program_words.specs.Rows.{command_rows}
 
--- a command that is built, with the names of its files and the options of a run
+-- a command, with the names of its files, the options of a run, or its number
 pub data Command : Type 0 where
   uni : Text → Text → Command
   replay : Text → Text → Text → Text → Command
@@ -14,11 +14,7 @@ pub data Command : Type 0 where
   lockstep : Text → Text → Text → Text → Text → Options → Command
   asm : Text → Text → Command
   elf : Text → Text → Text → Command
-
--- what the words ask for: a command that is built, or one that is to come
-pub data Request : Type 0 where
-  command : Command → Request
-  load : ℕ → Request
+  load : ℕ → Command
 
 -- the value of each name
 abbrev pub Values : Type 0
@@ -41,41 +37,41 @@ options_of values = record {
 }
 
 -- with the value of a name
-abbrev pub with_value : Values → Text → (Text → Option Request) → Option Request
+abbrev pub with_value : Values → Text → (Text → Option Command) → Option Command
 with_value values name make = option_and_then make (values name)
 
-abbrev pub uni_from : Values → Option Request
-uni_from values = with_value values (codes "image") (λ image. with_value values (codes "script") (λ script. Some (command (uni image script))))
+abbrev pub uni_from : Values → Option Command
+uni_from values = with_value values (codes "image") (λ image. with_value values (codes "script") (λ script. Some (uni image script)))
 
-abbrev pub replay_from : Values → Option Request
+abbrev pub replay_from : Values → Option Command
 replay_from values =
     with_value values (codes "image") (λ image. with_value values (codes "map") (λ map. with_value values (codes "script")
-    (λ script. with_value values (codes "journal") (λ journal. Some (command (replay image map script journal))))))
+    (λ script. with_value values (codes "journal") (λ journal. Some (replay image map script journal)))))
 
-abbrev pub run_from : Values → Values → Option Request
+abbrev pub run_from : Values → Values → Option Command
 run_from values numbers =
     with_value values (codes "image") (λ image. with_value values (codes "map") (λ map. with_value values (codes "script")
-    (λ script. with_value values (codes "journal") (λ journal. Some (command (run image map script journal (options_of numbers)))))))
+    (λ script. with_value values (codes "journal") (λ journal. Some (run image map script journal (options_of numbers))))))
 
-abbrev pub lockstep_from : Values → Values → Option Request
+abbrev pub lockstep_from : Values → Values → Option Command
 lockstep_from values numbers =
     with_value values (codes "image") (λ image. with_value values (codes "map") (λ map. with_value values (codes "script")
     (λ script. with_value values (codes "plan") (λ plan. with_value values (codes "journal")
-    (λ journal. Some (command (lockstep image map script plan journal (options_of numbers))))))))
+    (λ journal. Some (lockstep image map script plan journal (options_of numbers)))))))
 
-abbrev pub asm_from : Values → Option Request
-asm_from values = with_value values (codes "source") (λ source. with_value values (codes "image") (λ image. Some (command (asm source image))))
+abbrev pub asm_from : Values → Option Command
+asm_from values = with_value values (codes "source") (λ source. with_value values (codes "image") (λ image. Some (asm source image)))
 
-abbrev pub elf_from : Values → Option Request
+abbrev pub elf_from : Values → Option Command
 elf_from values =
     with_value values (codes "elf") (λ executable. with_value values (codes "image") (λ image. with_value values (codes "map")
-    (λ map. Some (command (elf executable image map)))))
+    (λ map. Some (elf executable image map))))
 
-abbrev pub load_from : Values → Option Request
-load_from numbers = option_map (λ n. load n) (option_and_then (number_to 18446744073709551615) (numbers (codes "number")))
+abbrev pub load_from : Values → Option Command
+load_from numbers = option_map (λ n. load n) (option_and_then (number_to 4294967295) (numbers (codes "number")))
 
 -- the request of a command's word with these values, and with these for its numbers
-abbrev pub request_with : Text → Values → Values → Option Request
+abbrev pub request_with : Text → Values → Values → Option Command
 request_with word values numbers =
     if bytes_eq word (codes "uni") then uni_from values
     else if bytes_eq word (codes "replay") then replay_from values
@@ -87,11 +83,11 @@ request_with word values numbers =
     else None
 
 -- the request of a row with these arguments
-abbrev pub request_from : Row → List Argument → Option Request
+abbrev pub request_from : Row → List Argument → Option Command
 request_from row given = request_with row.word (λ name. argument name given) (λ name. argument name given)
 
--- What the words ask for, if they are right for a command.
-abbrev pub request_of : List Text → Option Request
+-- What the words ask for, if they are right for a command, whatever names its files have.
+abbrev pub request_of : List Text → Option Command
 request_of words = option_and_then (λ r. request_from r.0 r.1) (row_and_arguments command_rows words)
 
 -- whether a command has a name of its own for each file that it writes: elf writes an image and a map
@@ -99,12 +95,11 @@ abbrev pub writes_apart : Command → Bool
 writes_apart (elf executable image map) = not (bytes_eq image map)
 writes_apart other = true
 
--- a request for a command that is built, and has a name for each file that it writes
-abbrev pub built : Request → Option Command
-built (command c) = if writes_apart c then Some c else None
-built _ = None
+-- a command that has a name for each file that it writes
+abbrev pub set_apart : Command → Option Command
+set_apart c = if writes_apart c then Some c else None
 
 -- The command that the words ask for: where there is none, they are no use of the program. Words that name one file for
 -- both files that a command writes ask for none.
 abbrev pub command_of : List Text → Option Command
-command_of words = option_and_then built (request_of words)
+command_of words = option_and_then set_apart (request_of words)

@@ -6,7 +6,7 @@ use Rattle.program_words.specs.Words.{Text, Kind, plain, kind, Parameter, Row, I
 use Rattle.program_words.specs.Rows.{command_rows}
 use Rattle.mach_base.specs.declared.limits.TheConstants.{MOST_HARTS, MOST_ROUNDS, MOST_STEPS}
 use Rattle.program_words.specs.declared.request.Options.{Options}
-use Rattle.program_words.specs.Commands.{Command, uni, replay, run, lockstep, asm, elf, command_of, Request, command, load, request_of}
+use Rattle.program_words.specs.Commands.{Command, uni, replay, run, lockstep, asm, elf, load, command_of, request_of}
 
 -- the option of this name
 abbrev option_of : Row → Text → Option Parameter
@@ -66,12 +66,8 @@ IsCommandWithin (run image map script journal options) = AreWithin options
 IsCommandWithin (lockstep image map script plan journal options) = AreWithin options
 IsCommandWithin (asm source image) = Unit {0}
 IsCommandWithin (elf executable image map) = Unit {0}
-
--- the numbers of a request are within their bounds
-abbrev pub IsWithin : Request → Type 0
-IsWithin (command c) = IsCommandWithin c
-IsWithin (load number) = number ≤ 4294967295
+IsCommandWithin (load number) = number ≤ 4294967295
 
 -- The numbers of each request are within their bounds, the defaults of options that aren't given too.
 abbrev pub RequestsAreWithin : Type 0
-RequestsAreWithin = (words : List Text) (r : Request) → request_of words ≡ Some r → IsWithin r
+RequestsAreWithin = (words : List Text) (r : Command) → request_of words ≡ Some r → IsCommandWithin r

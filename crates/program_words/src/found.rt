@@ -2,14 +2,14 @@ ghost use Rattle.std.specs.Prelude.{◌≡◌, codes, option_and_then};
 ghost use Rattle.std.specs.Option.{option_map};
 ghost use Rattle.program_words.specs.Commands.{asm_from, elf_from, load_from, lockstep_from, number_or, number_to, options_of, replay_from, request_with, run_from, uni_from};
 ghost use Rattle.program_words.specs.Parser.{numbers_in, values_in};
-ghost use Rattle.program_words.specs.Views.{request_view};
+ghost use Rattle.program_words.specs.Views.{command_view};
 
-use crate::request::{Command, Options, Request};
+use crate::request::{Command, Options};
 use clap::ArgMatches;
 
 /// The request of the command of this word with what was found for it.
-pub(crate) fn request<'a>(word: &str, found: &ArgMatches<'a>) -> Option<Request<'a>>
-    ensures { option_map request_view result ≡ request_with word.now (values_in found.now) (numbers_in found.now) }
+pub(crate) fn request<'a>(word: &str, found: &ArgMatches<'a>) -> Option<Command<'a>>
+    ensures { option_map command_view result ≡ request_with word.now (values_in found.now) (numbers_in found.now) }
 {
     match word {
         "uni" => uni(found),
@@ -23,89 +23,89 @@ pub(crate) fn request<'a>(word: &str, found: &ArgMatches<'a>) -> Option<Request<
     }
 }
 
-fn uni<'a>(found: &ArgMatches<'a>) -> Option<Request<'a>>
-    ensures { option_map request_view result ≡ uni_from (values_in found.now) }
+fn uni<'a>(found: &ArgMatches<'a>) -> Option<Command<'a>>
+    ensures { option_map command_view result ≡ uni_from (values_in found.now) }
 {
     let image = value(found, "image")?;
     let script = value(found, "script")?;
-    Some(Request::Built(Command::Uni { image, script }))
+    Some(Command::Uni { image, script })
 }
 
-fn replay<'a>(found: &ArgMatches<'a>) -> Option<Request<'a>>
-    ensures { option_map request_view result ≡ replay_from (values_in found.now) }
+fn replay<'a>(found: &ArgMatches<'a>) -> Option<Command<'a>>
+    ensures { option_map command_view result ≡ replay_from (values_in found.now) }
 {
     let image = value(found, "image")?;
     let map = value(found, "map")?;
     let script = value(found, "script")?;
     let journal = value(found, "journal")?;
-    Some(Request::Built(Command::Replay {
+    Some(Command::Replay {
         image,
         map,
         script,
         journal,
-    }))
+    })
 }
 
-fn run<'a>(found: &ArgMatches<'a>) -> Option<Request<'a>>
-    ensures { option_map request_view result ≡ run_from (values_in found.now) (numbers_in found.now) }
+fn run<'a>(found: &ArgMatches<'a>) -> Option<Command<'a>>
+    ensures { option_map command_view result ≡ run_from (values_in found.now) (numbers_in found.now) }
 {
     let image = value(found, "image")?;
     let map = value(found, "map")?;
     let script = value(found, "script")?;
     let journal = value(found, "journal")?;
-    Some(Request::Built(Command::Run {
+    Some(Command::Run {
         image,
         map,
         script,
         journal,
         options: options(found),
-    }))
+    })
 }
 
-fn lockstep<'a>(found: &ArgMatches<'a>) -> Option<Request<'a>>
-    ensures { option_map request_view result ≡ lockstep_from (values_in found.now) (numbers_in found.now) }
+fn lockstep<'a>(found: &ArgMatches<'a>) -> Option<Command<'a>>
+    ensures { option_map command_view result ≡ lockstep_from (values_in found.now) (numbers_in found.now) }
 {
     let image = value(found, "image")?;
     let map = value(found, "map")?;
     let script = value(found, "script")?;
     let plan = value(found, "plan")?;
     let journal = value(found, "journal")?;
-    Some(Request::Built(Command::Lockstep {
+    Some(Command::Lockstep {
         image,
         map,
         script,
         plan,
         journal,
         options: options(found),
-    }))
+    })
 }
 
-fn asm<'a>(found: &ArgMatches<'a>) -> Option<Request<'a>>
-    ensures { option_map request_view result ≡ asm_from (values_in found.now) }
+fn asm<'a>(found: &ArgMatches<'a>) -> Option<Command<'a>>
+    ensures { option_map command_view result ≡ asm_from (values_in found.now) }
 {
     let source = value(found, "source")?;
     let image = value(found, "image")?;
-    Some(Request::Built(Command::Asm { source, image }))
+    Some(Command::Asm { source, image })
 }
 
-fn elf<'a>(found: &ArgMatches<'a>) -> Option<Request<'a>>
-    ensures { option_map request_view result ≡ elf_from (values_in found.now) }
+fn elf<'a>(found: &ArgMatches<'a>) -> Option<Command<'a>>
+    ensures { option_map command_view result ≡ elf_from (values_in found.now) }
 {
     let executable = value(found, "elf")?;
     let image = value(found, "image")?;
     let map = value(found, "map")?;
-    Some(Request::Built(Command::Elf {
+    Some(Command::Elf {
         executable,
         image,
         map,
-    }))
+    })
 }
 
-fn load<'a>(found: &ArgMatches<'a>) -> Option<Request<'a>>
-    ensures { option_map request_view result ≡ load_from (numbers_in found.now) }
+fn load<'a>(found: &ArgMatches<'a>) -> Option<Command<'a>>
+    ensures { option_map command_view result ≡ load_from (numbers_in found.now) }
 {
-    let number = number(found, "number")?;
-    Some(Request::Load { number })
+    let number = found.get_one::<u32>("number")?;
+    Some(Command::Load { number })
 }
 
 fn options(found: &ArgMatches<'_>) -> Options

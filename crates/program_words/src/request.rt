@@ -9,7 +9,7 @@ pub struct Options {
     pub rounds: u32,
 }
 
-/// A command that is built, with the names of its files.
+/// A command, with the names of its files.
 #[derive(Clone, Copy, Debug)]
 pub enum Command<'a> {
     /// `uni IMAGE SCRIPT`: the image on one hart.
@@ -52,14 +52,10 @@ pub enum Command<'a> {
         image: &'a str,
         map: &'a str,
     },
-}
-
-/// What right words ask for: a command that is built, or one that is to come.
-#[derive(Clone, Copy, Debug)]
-pub enum Request<'a> {
-    Built(Command<'a>),
-    /// `load NUMBER`, from 0 to 4,294,967,295.
-    Load { number: u64 },
+    /// `load NUMBER`, from 0 to 4,294,967,295: the input that the number says is run.
+    Load {
+        number: u32,
+    },
 }
 
 /// Why the words give nothing.

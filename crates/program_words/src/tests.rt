@@ -10,37 +10,35 @@ fn words(alloc: Global, line: &str) -> Result<Vec<String>, AllocError> {
     Ok(words)
 }
 
-/// Whether the words are a command that is built, and whether they are right at all.
-fn answers(alloc: Global, line: &str) -> Result<(bool, bool), AllocError> {
+/// Whether the words are a command.
+fn is_command(alloc: Global, line: &str) -> Result<bool, AllocError> {
     let words = words(alloc, line)?;
-    let command = command_of(words.as_slice(), alloc).is_ok();
-    let request = request_of(words.as_slice(), alloc).is_ok();
-    Ok((command, request))
+    Ok(command_of(words.as_slice(), alloc).is_ok())
 }
 
 #[test]
 fn words_are_commands_or_a_wrong_use(rt: HostRuntime) -> Result<(), Fail> {
     for (line, answer) in [
-        ("", (false, false)),
-        ("uni a b", (true, true)),
-        ("uni a b --harts 2", (false, false)),
-        ("uni a", (false, false)),
-        ("help", (false, false)),
-        ("replay a b c d", (true, true)),
-        ("run a b c", (false, false)),
-        ("run a b c d --harts 17", (false, false)),
-        ("run a b c d --harts 2 --harts=2", (false, false)),
-        ("lockstep --harts=+02 a b - d -- --e", (true, true)),
-        ("asm a b", (true, true)),
-        ("asm a", (false, false)),
-        ("elf a b c", (true, true)),
-        ("elf a a b", (true, true)),
-        ("elf a b b", (false, true)),
-        ("elf a b c d", (false, false)),
-        ("load 4294967295", (false, true)),
-        ("load 4294967296", (false, false)),
+        ("", false),
+        ("uni a b", true),
+        ("uni a b --harts 2", false),
+        ("uni a", false),
+        ("help", false),
+        ("replay a b c d", true),
+        ("run a b c", false),
+        ("run a b c d --harts 17", false),
+        ("run a b c d --harts 2 --harts=2", false),
+        ("lockstep --harts=+02 a b - d -- --e", true),
+        ("asm a b", true),
+        ("asm a", false),
+        ("elf a b c", true),
+        ("elf a a b", true),
+        ("elf a b b", false),
+        ("elf a b c d", false),
+        ("load 4294967295", true),
+        ("load 4294967296", false),
     ] {
-        assert!(rt; answers(rt.alloc(), line)? == answer);
+        assert!(rt; is_command(rt.alloc(), line)? == answer);
     }
     Ok(())
 }

@@ -4,18 +4,18 @@ ghost use Rattle.std.specs.String.{string_bytes};
 ghost use Rattle.clap.specs.Words.{kind_of};
 ghost use Rattle.program_words.specs.Commands.{command_of, request_of, writes_apart};
 ghost use Rattle.program_words.specs.Laws.{IsCommandWithin};
-ghost use Rattle.program_words.specs.Views.{command_view, request_in, request_view};
+ghost use Rattle.program_words.specs.Views.{command_view, request_in};
 ghost use Rattle.program_words.specs.declared.request.WordsFault.TheVariants.{Usage};
 
 use crate::found::request;
 use crate::laws::requests_are_within_bounds;
 use crate::parser::program;
-use crate::request::{Command, Request, WordsFault};
+use crate::request::{Command, WordsFault};
 use clap::ArgMatches;
 use clap::error::ErrorKind;
 use std::alloc::Global;
 
-/// The command that the words ask for. Usage comes where they ask for none that is built: no words, another word, too few
+/// The command that the words ask for. Usage comes where they ask for none: no words, another word, too few
 /// or too many operands, an option that the command lacks or that comes twice, a number that is none or out of bounds, one
 /// name for both files that `elf` writes.
 pub fn command_of(words: &[String], alloc: Global) -> Result<Command<'_>, WordsFault>
@@ -25,15 +25,11 @@ pub fn command_of(words: &[String], alloc: Global) -> Result<Command<'_>, WordsF
     ensures usage { IfErr result (λ e. e ≡ Usage → command_of (map string_bytes words.now) ≡ None) }
 {
     requests_are_within_bounds();
-    match request_of(words, alloc)? {
-        Request::Built(command) => {
-            if !writes_apart(command) {
-                return Err(WordsFault::Usage);
-            }
-            Ok(command)
-        }
-        Request::Load { .. } => Err(WordsFault::Usage),
+    let command = request_of(words, alloc)?;
+    if !writes_apart(command) {
+        return Err(WordsFault::Usage);
     }
+    Ok(command)
 }
 
 /// Whether the command has a name of its own for each file that it writes.
@@ -46,9 +42,9 @@ fn writes_apart(command: Command<'_>) -> bool
     }
 }
 
-/// What the words ask for, built or not. Usage comes where they are right for no command.
-pub fn request_of(words: &[String], alloc: Global) -> Result<Request<'_>, WordsFault>
-    ensures ok { IfOk result (λ r. request_of (map string_bytes words.now) ≡ Some (request_view r)) }
+/// What the words ask for, whatever names its files have. Usage comes where they are right for no command.
+fn request_of(words: &[String], alloc: Global) -> Result<Command<'_>, WordsFault>
+    ensures ok { IfOk result (λ r. request_of (map string_bytes words.now) ≡ Some (command_view r)) }
     ensures usage { IfErr result (λ e. e ≡ Usage → request_of (map string_bytes words.now) ≡ None) }
 {
     let found = matches(words, alloc)?;
@@ -56,8 +52,8 @@ pub fn request_of(words: &[String], alloc: Global) -> Result<Request<'_>, WordsF
 }
 
 /// The request of what clap found.
-fn asked<'a>(found: &ArgMatches<'a>) -> Option<Request<'a>>
-    ensures { option_map request_view result ≡ request_in found.now }
+fn asked<'a>(found: &ArgMatches<'a>) -> Option<Command<'a>>
+    ensures { option_map command_view result ≡ request_in found.now }
 {
     let (word, found) = found.subcommand()?;
     request(word, found)

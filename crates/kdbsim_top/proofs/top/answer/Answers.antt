@@ -28,6 +28,14 @@ returns-in-Asm g c = record {
       (sym (ap command_view c.in-Asm.is)) (c.answer_asm.ensures (g.O.Sink.taken c.args.out.now) (g.O.Sink.faults c.args.out.now));
 }
 
+pub returns-in-Load : goal.returns-in-Load
+returns-in-Load g c = record {
+  cause = subst
+      (λ command. Explains (outside (g.F.Shelf.contents c.args.shelf.now) (g.F.Shelf.contents c.args.shelf.now) (g.F.Shelf.faults c.args.shelf.now) (g.F.Shelf.faults c.args.shelf.now)
+      (g.O.Sink.taken c.args.out.now) (g.O.Sink.taken c.answer_load.new.out) (g.O.Sink.faults c.args.out.now) (g.O.Sink.faults c.answer_load.new.out)) command c.answer_load.result)
+      (sym (ap command_view c.in-Load.is)) (c.answer_load.ensures (g.F.Shelf.contents c.args.shelf.now) (g.F.Shelf.faults c.args.shelf.now));
+}
+
 pub returns-in-Elf : goal.returns-in-Elf
 returns-in-Elf g c = record {
   cause = subst
