@@ -104,8 +104,15 @@ fn elf<'a>(found: &ArgMatches<'a>) -> Option<Command<'a>>
 fn load<'a>(found: &ArgMatches<'a>) -> Option<Command<'a>>
     ensures { option_map command_view result ≡ load_from (numbers_in found.now) }
 {
-    let number = found.get_one::<u32>("number")?;
+    let number = input_number(found)?;
     Some(Command::Load { number })
+}
+
+/// The number of the input that is to be made.
+fn input_number(found: &ArgMatches<'_>) -> Option<u32>
+    ensures { result ≡ option_and_then (number_to 4294967295) (numbers_in found.now (codes "number")) }
+{
+    found.get_one::<u32>("number")
 }
 
 fn options(found: &ArgMatches<'_>) -> Options
