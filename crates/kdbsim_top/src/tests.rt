@@ -139,7 +139,9 @@ fn file_shelf(alloc: Global, bytes: &[u8]) -> Result<MemShelf, AllocError> {
 /// The bytes with one of them changed.
 fn changed(alloc: Global, at: usize, byte: u8) -> Result<Vec<u8>, AllocError> {
     let mut bytes = ELF.to_vec(alloc)?;
-    bytes[at] = byte;
+    if at < bytes.len() {
+        bytes[at] = byte;
+    }
     Ok(bytes)
 }
 
