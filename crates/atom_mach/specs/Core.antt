@@ -10,7 +10,7 @@ use Rattle.atom_mach.specs.declared.machine.Core.{Core}
 -- its machine record
 abbrev pub machine_of : Core → Machine
 machine_of c = record {
-  seen = seen_of c.contexts.items c.map c.kdb c.names;
+  seen = seen_of c.contexts.items c.map.memory c.kdb c.names;
   limit = c.limit;
   unread = drop c.read c.script;
   lines_read = c.read;

@@ -18,7 +18,7 @@ pub fn fault_of_fetched(
     map: &Map,
     fetched: Result<u32, Fault>,
 ) -> Option<Fault>
-    ensures { result ≡ fault_of_fetched context.now harts map.now fetched }
+    ensures { result ≡ fault_of_fetched context.now harts map.now.memory fetched }
 {
     match fetched {
         Ok(word) => fault_of(context, harts, map, word),
@@ -43,7 +43,7 @@ fn trap_of_fetched(
     map: &Map,
     fetched: Result<u32, Fault>,
 ) -> Option<Reason>
-    ensures { result ≡ trap_of_fetched context.now harts map.now fetched }
+    ensures { result ≡ trap_of_fetched context.now harts map.now.memory fetched }
 {
     match fetched {
         Err(fault) => Some(Reason::Fault(fault)),
@@ -62,7 +62,7 @@ pub fn late_trap_of(
     map: &Map,
     fetched: Result<u32, Fault>,
 ) -> Option<Reason>
-    ensures { result ≡ late_trap_of opened hart.0 context.now harts map.now fetched }
+    ensures { result ≡ late_trap_of opened hart.0 context.now harts map.now.memory fetched }
 {
     if !opened && hart.0 == 0 {
         return Some(Reason::Start);
@@ -84,7 +84,7 @@ pub fn trap_of(
     map: &Map,
     fetched: Result<u32, Fault>,
 ) -> Option<Reason>
-    ensures { result ≡ trap_of opened breaks.now hart.0 context.now harts map.now fetched }
+    ensures { result ≡ trap_of opened breaks.now hart.0 context.now harts map.now.memory fetched }
 {
     if !opened && hart.0 == 0 {
         return Some(Reason::Start);

@@ -25,15 +25,15 @@ use Rattle.bus_core.specs.declared.inner.Inner.{Inner}
 abbrev pub machine_of : Inner → PlantedMachine
 machine_of c = record {
   machine = record {
-    seen = seen_of c.contexts.items c.memory.memory c.kdb c.names;
+    seen = seen_of c.contexts.items c.memory.planted.memory c.kdb c.names;
     limit = c.limit;
     unread = drop c.read c.script;
     lines_read = c.read;
     steps = c.steps;
     opened = c.opened;
   };
-  places = c.memory.places;
-  step = c.memory.step;
+  places = c.memory.planted.places;
+  step = c.memory.planted.step;
   calls = c.calls.items;
   session = c.session;
   ending = c.ending;

@@ -5,3 +5,4 @@ pub mod Raw
 pub mod Slots
 pub mod Stay
 pub mod WithWords
+pub mod Paging

@@ -5,6 +5,7 @@ use Rattle.mach_base.specs.Masks.{mask_with}
 use Rattle.mach_base.specs.declared.limits.TheConstants.{PLACES}
 use Rattle.mem_map.specs.Access.{access_fault, after_store}
 use Rattle.mem_map.specs.declared.rights.Access.TheVariants.{Fetch}
+use Rattle.mem_map.specs.Pages.{PagedMemory}
 use Rattle.rv_table.specs.Rows.{ebreak_word}
 
 -- True memory; for each breakpoint place the address of the word at which it is planted, if it is; and the address of the
@@ -13,6 +14,11 @@ pub record PlantedMemory : Type 0 where
   pub memory : Memory
   pub places : List (Option ℕ)
   pub step : Option ℕ
+
+-- planted memory, and for each page whether it is marked as changed; planting marks the page, too
+pub record PlantedPages : Type 0 where
+  pub planted : PlantedMemory
+  pub changed : List Bool
 
 -- memory in which nothing is planted
 abbrev pub unplanted : Memory → PlantedMemory
@@ -41,6 +47,10 @@ with_ebreaks m (Some addr ∷ rest) = after_store (with_ebreaks m rest) addr 4 e
 -- Raw memory: what the bytes are while the words are planted.
 unfoldable pub raw_memory : PlantedMemory → Memory
 raw_memory p = with_ebreaks p.memory (planted_addresses p)
+
+-- raw memory with its marks
+abbrev pub raw_pages : PlantedPages → PagedMemory
+raw_pages p = record { memory = raw_memory p.planted; changed = p.changed }
 
 -- fetching at each of the addresses doesn't fault: a whole word of text is there
 abbrev pub AreText : Memory → List (Option ℕ) → Type 0

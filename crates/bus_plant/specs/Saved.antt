@@ -1,7 +1,7 @@
 -- How planted words are kept: the bytes with `ebreak` in them, and the words that were there before.
-use Rattle.std.specs.Prelude.{◌≡◌, ℕ, ◌-◌, ◌%◌, ◌^◌, ◌<◌, ◌==◌, List, [], ◌∷◌, length, map, slice_set, Option, Some, None, refl, if◌then◌else◌}
+use Rattle.std.specs.Prelude.{◌≡◌, ℕ, ◌-◌, ◌%◌, ◌^◌, ◌<◌, ◌==◌, Bool, List, [], ◌∷◌, length, map, slice_set, Option, Some, None, refl, if◌then◌else◌}
 use Rattle.std.specs.Int.{w32, to_le_bytes, from_le_bytes}
-use Rattle.std.specs.Coded.{Coded, code_by, coded×, coded_ℕ, coded_list, coded_option}
+use Rattle.std.specs.Coded.{Coded, code_by, coded×, coded_ℕ, coded_bool, coded_list, coded_option}
 use Rattle.mach_base.specs.Bytes.{byte_of}
 use Rattle.mach_base.specs.Codes.{memory_code}
 use Rattle.mach_base.specs.declared.limits.TheConstants.{PLACES}
@@ -9,7 +9,7 @@ use Rattle.mach_base.specs.Machine.{Memory}
 use Rattle.mem_map.specs.Access.{access_fault, after_store}
 use Rattle.mem_map.specs.declared.rights.Access.TheVariants.{Fetch}
 use Rattle.rv_table.specs.Rows.{ebreak_word}
-use Rattle.bus_plant.specs.Planted.{PlantedMemory, AreText, AreDistinct}
+use Rattle.bus_plant.specs.Planted.{PlantedMemory, PlantedPages, AreText, AreDistinct}
 use Rattle.bus_plant.specs.declared.saved.Saved.{Saved}
 
 -- the address of a saved word
@@ -82,5 +82,9 @@ pub record AreKept (raw : Memory) (places : List (Option Saved)) (step : Option 
   pub kept : IsKept raw (step ∷ places)
 
 -- a planted memory as the tuple of its fields
-abbrev pub planted_code : Coded PlantedMemory
-planted_code = code_by (Memory × (List (Option ℕ) × Option ℕ)) (coded× memory_code (coded× (coded_list (coded_option coded_ℕ)) (coded_option coded_ℕ))) (λ p. (p.memory, (p.places, p.step))) (λ t. record { memory = t.0; places = t.1.0; step = t.1.1 }) (λ _. refl)
+abbrev planted_memory_code : Coded PlantedMemory
+planted_memory_code = code_by (Memory × (List (Option ℕ) × Option ℕ)) (coded× memory_code (coded× (coded_list (coded_option coded_ℕ)) (coded_option coded_ℕ))) (λ p. (p.memory, (p.places, p.step))) (λ t. record { memory = t.0; places = t.1.0; step = t.1.1 }) (λ _. refl)
+
+-- the same with the marks of its pages
+abbrev pub planted_code : Coded PlantedPages
+planted_code = code_by (PlantedMemory × List Bool) (coded× planted_memory_code (coded_list coded_bool)) (λ p. (p.planted, p.changed)) (λ t. record { planted = t.0; changed = t.1 }) (λ _. refl)

@@ -2,6 +2,7 @@ ghost use Rattle.std.specs.Prelude.{◌≡◌, ◌∷◌, ◌<◌, ◌≤◌, No
 ghost use Rattle.mach_base.specs.Masks.{mask_with};
 ghost use Rattle.mach_base.specs.Machine.{is_text_word};
 ghost use Rattle.mem_map.specs.Access.{access_fault, after_store};
+ghost use Rattle.mem_map.specs.Pages.{KeepsUnmarked};
 ghost use Rattle.mem_map.specs.declared.rights.Access.TheVariants.{Fetch};
 ghost use Rattle.bus_plant.specs.Planted.{planted_mask};
 ghost use Rattle.bus_plant.specs.Saved.{address_of, addresses, saved_word, word_for, byte_seen, after_poke, IsSaved};
@@ -20,9 +21,10 @@ pub struct Saved {
 
 /// Writes `ebreak` over the word of text at the address; the word that was there is saved.
 pub fn save_word(raw: &mut Map, addr: u64) -> Saved
-    requires { IsTrue (is_text_word raw.old addr) }
+    requires { IsTrue (is_text_word raw.old.memory addr) }
     ensures addr { result.addr ≡ addr }
-    ensures saved { IsSaved raw.old result raw.new }
+    ensures saved { IsSaved raw.old.memory result raw.new.memory }
+    ensures pages { KeepsUnmarked raw.old raw.new }
 {
     if !raw.is_text(addr) {
         unreachable!()
@@ -34,8 +36,9 @@ pub fn save_word(raw: &mut Map, addr: u64) -> Saved
 
 /// Writes the saved word over the `ebreak` at its address.
 pub fn restore_word(raw: &mut Map, saved: Saved)
-    requires { access_fault raw.old Fetch saved.addr 4 ≡ None }
-    ensures { raw.new ≡ after_store raw.old saved.addr 4 saved.word }
+    requires { access_fault raw.old.memory Fetch saved.addr 4 ≡ None }
+    ensures memory { raw.new.memory ≡ after_store raw.old.memory saved.addr 4 saved.word }
+    ensures pages { KeepsUnmarked raw.old raw.new }
 {
     write_word(raw, saved.addr, saved.word);
 }

@@ -4,6 +4,7 @@ ghost use Rattle.mach_base.specs.Bytes.{byte_of, is_mapped};
 ghost use Rattle.mach_base.specs.Machine.{byte_at, is_text_word};
 ghost use Rattle.std.specs.FinMap as finite;
 ghost use Rattle.mem_map.specs.Access.{access_fault, after_store};
+ghost use Rattle.mem_map.specs.Pages.{KeepsUnmarked};
 ghost use Rattle.mem_map.specs.declared.rights.Access.TheVariants.{Fetch};
 ghost use Rattle.bus_plant.specs.Saved.{with_byte};
 
@@ -29,8 +30,8 @@ pub fn with_byte(word: u32, place: u64, byte: u8) -> u32
 
 /// The byte at an address that is mapped.
 fn mapped_byte(map: &Map, addr: u64) -> u8
-    requires { is_mapped map.now addr ≡ true }
-    ensures byte { byte_at map.now addr ≡ Some result }
+    requires { is_mapped map.now.memory addr ≡ true }
+    ensures byte { byte_at map.now.memory addr ≡ Some result }
     ensures low { addr < 2 ^ 63 }
 {
     match map.peek(addr) {
@@ -41,8 +42,9 @@ fn mapped_byte(map: &Map, addr: u64) -> u8
 
 /// Writes a byte at an address that is mapped.
 pub fn put_byte(map: &mut Map, addr: u64, byte: u8)
-    requires { is_mapped map.old addr ≡ true }
-    ensures { map.new ≡ record map.old { bytes = finite.insert map.old.bytes addr byte } }
+    requires { is_mapped map.old.memory addr ≡ true }
+    ensures memory { map.new.memory ≡ record map.old.memory { bytes = finite.insert map.old.memory.bytes addr byte } }
+    ensures pages { KeepsUnmarked map.old map.new }
 {
     if !map.poke(addr, byte) {
         unreachable!()
@@ -51,8 +53,8 @@ pub fn put_byte(map: &mut Map, addr: u64, byte: u8)
 
 /// The word of text at the address.
 pub fn read_word(map: &Map, addr: u64) -> u32
-    requires { access_fault map.now Fetch addr 4 ≡ None }
-    ensures { after_store map.now addr 4 result ≡ map.now }
+    requires { access_fault map.now.memory Fetch addr 4 ≡ None }
+    ensures { after_store map.now.memory addr 4 result ≡ map.now.memory }
 {
     let lowest = mapped_byte(map, addr);
     let second = mapped_byte(map, addr + 1);
@@ -63,8 +65,9 @@ pub fn read_word(map: &Map, addr: u64) -> u32
 
 /// Writes the word of text at the address.
 pub fn write_word(map: &mut Map, addr: u64, word: u32)
-    requires { access_fault map.old Fetch addr 4 ≡ None }
-    ensures { map.new ≡ after_store map.old addr 4 word }
+    requires { access_fault map.old.memory Fetch addr 4 ≡ None }
+    ensures memory { map.new.memory ≡ after_store map.old.memory addr 4 word }
+    ensures pages { KeepsUnmarked map.old map.new }
 {
     let _lowest = mapped_byte(map, addr);
     for place in 0..4 {

@@ -6,6 +6,7 @@ ghost use Rattle.hart_ctx.specs.Reservation.{granule_of};
 ghost use Rattle.rv_alu.specs.Results.{is_alu, is_branch, is_amo};
 ghost use Rattle.mach_base.specs.Bytes.{IsWidth, number_in};
 ghost use Rattle.mem_map.specs.Access.{access_fault, store_fault, after_store};
+ghost use Rattle.mem_map.specs.Pages.{KeepsUnmarked};
 ghost use Rattle.rv_decode.specs.Instruction.{fields_of};
 ghost use Rattle.hart_step.specs.Operands.{class_of, HasWidth, register, address, extension};
 ghost use Rattle.mem_map.specs.declared.rights.Access.TheVariants as access;
@@ -13,6 +14,7 @@ ghost use Rattle.trap_ipi.specs.Service.{after_service, answer};
 ghost use Rattle.hart_step.specs.Control.{target};
 ghost use Rattle.hart_step.specs.Faults.{target_fault, service_fault};
 ghost use Rattle.hart_step.specs.Execution.{IsLocal, with_result, context_after, served_byte, holds_reservation, contexts_after_store, contexts_in, memory_in, byte_in, contexts_after, memory_after, byte_sent, did_by, fault_for, own_fault_for, unless_faulted};
+ghost use Rattle.hart_step.specs.declared.execution.Did.TheVariants as did;
 ghost use Rattle.hart_step.specs.declared.class.Class.TheVariants.{Immediate, Registers, Branch, Load, Store, Reserve, Conditional, Atomic};
 
 use crate::class::{Class, class_of};
@@ -40,9 +42,11 @@ pub enum Did {
 #[tactic(auto, unfolding(crate::specs::Faults::word_fault, crate::specs::Execution::contexts_after, crate::specs::Execution::memory_after, crate::specs::Execution::byte_sent))]
 pub fn exec(ctxs: &mut [Context], map: &mut Map, h: Hart, word: u32) -> Did
     requires { h.0 < length ctxs.old }
-    ensures answer { result ≡ did_by (fault_for ctxs.old map.old h.0 word) (byte_sent ctxs.old h.0 word) }
-    ensures contexts { ctxs.new ≡ unless_faulted (fault_for ctxs.old map.old h.0 word) ctxs.old (contexts_after ctxs.old map.old h.0 word) }
-    ensures memory { map.new ≡ unless_faulted (fault_for ctxs.old map.old h.0 word) map.old (memory_after map.old (context_of ctxs.old h.0) word) }
+    ensures answer { result ≡ did_by (fault_for ctxs.old map.old.memory h.0 word) (byte_sent ctxs.old h.0 word) }
+    ensures contexts { ctxs.new ≡ unless_faulted (fault_for ctxs.old map.old.memory h.0 word) ctxs.old (contexts_after ctxs.old map.old.memory h.0 word) }
+    ensures memory { map.new.memory ≡ unless_faulted (fault_for ctxs.old map.old.memory h.0 word) map.old.memory (memory_after map.old.memory (context_of ctxs.old h.0) word) }
+    ensures pages { KeepsUnmarked map.old map.new }
+    ensures faulted { (fault : Fault) → result ≡ did.Fault fault → map.new ≡ map.old }
 {
     let Some(insn) = decode(word) else {
         return Did::Fault(illegal(word));
@@ -59,9 +63,11 @@ fn execute(ctxs: &mut [Context], map: &mut Map, h: Hart, class: Class, insn: &In
     requires registers { class ≡ Registers → IsTrue (is_alu insn.now.op) }
     requires branch { class ≡ Branch → IsTrue (is_branch insn.now.op) }
     requires atomic { (width : ℕ) → class ≡ Atomic width → IsTrue (is_amo insn.now.op) }
-    ensures answer { result ≡ did_by (own_fault_for class ctxs.old map.old h.0 (fields_of insn.now)) (byte_in class ctxs.old h.0) }
-    ensures contexts { ctxs.new ≡ unless_faulted (own_fault_for class ctxs.old map.old h.0 (fields_of insn.now)) ctxs.old (contexts_in class ctxs.old map.old h.0 (fields_of insn.now)) }
-    ensures memory { map.new ≡ unless_faulted (own_fault_for class ctxs.old map.old h.0 (fields_of insn.now)) map.old (memory_in class map.old (context_of ctxs.old h.0) (fields_of insn.now)) }
+    ensures answer { result ≡ did_by (own_fault_for class ctxs.old map.old.memory h.0 (fields_of insn.now)) (byte_in class ctxs.old h.0) }
+    ensures contexts { ctxs.new ≡ unless_faulted (own_fault_for class ctxs.old map.old.memory h.0 (fields_of insn.now)) ctxs.old (contexts_in class ctxs.old map.old.memory h.0 (fields_of insn.now)) }
+    ensures memory { map.new.memory ≡ unless_faulted (own_fault_for class ctxs.old map.old.memory h.0 (fields_of insn.now)) map.old.memory (memory_in class map.old.memory (context_of ctxs.old h.0) (fields_of insn.now)) }
+    ensures pages { KeepsUnmarked map.old map.new }
+    ensures faulted { (fault : Fault) → result ≡ did.Fault fault → map.new ≡ map.old }
 {
     match class {
         Class::Service => call_service(ctxs, h),
@@ -176,8 +182,8 @@ fn load(
 ) -> Result<(), Fault>
     requires hart { h.0 < length ctxs.old }
     requires width { IsWidth width }
-    ensures fault { result_err result ≡ access_fault map.now access.Load (address (context_of ctxs.old h.0) (fields_of insn.now)) width }
-    ensures contexts { OnOk result (ctxs.new ≡ contexts_in (Load width signed) ctxs.old map.now h.0 (fields_of insn.now)) }
+    ensures fault { result_err result ≡ access_fault map.now.memory access.Load (address (context_of ctxs.old h.0) (fields_of insn.now)) width }
+    ensures contexts { OnOk result (ctxs.new ≡ contexts_in (Load width signed) ctxs.old map.now.memory h.0 (fields_of insn.now)) }
     ensures err { OnErr result (ctxs.new ≡ ctxs.old) }
 {
     let ctx = &ctxs[usize::from(h.0)];
@@ -193,8 +199,8 @@ fn load(
 #[tactic(auto, using(crate::proofs::Rights::load_where_stored), unfolding(mem_map::specs::Access::load_result))]
 fn old_value(map: &Map, addr: u64, width: u8) -> Result<u64, Fault>
     requires { IsWidth width }
-    ensures fault { result_err result ≡ store_fault map.now addr width }
-    ensures value { IfOk result (λ value. value ≡ extension width true (number_in map.now addr width)) }
+    ensures fault { result_err result ≡ store_fault map.now.memory addr width }
+    ensures value { IfOk result (λ value. value ≡ extension width true (number_in map.now.memory addr width)) }
 {
     map.storable(addr, width)?;
     match map.load(addr, width) {
@@ -207,8 +213,8 @@ fn old_value(map: &Map, addr: u64, width: u8) -> Result<u64, Fault>
 fn reserve(ctxs: &mut [Context], map: &Map, h: Hart, insn: &Insn, width: u8) -> Result<(), Fault>
     requires hart { h.0 < length ctxs.old }
     requires width { IsWidth width }
-    ensures fault { result_err result ≡ store_fault map.now (register (context_of ctxs.old h.0) insn.now.rs1) width }
-    ensures contexts { OnOk result (ctxs.new ≡ contexts_in (Reserve width) ctxs.old map.now h.0 (fields_of insn.now)) }
+    ensures fault { result_err result ≡ store_fault map.now.memory (register (context_of ctxs.old h.0) insn.now.rs1) width }
+    ensures contexts { OnOk result (ctxs.new ≡ contexts_in (Reserve width) ctxs.old map.now.memory h.0 (fields_of insn.now)) }
     ensures err { OnErr result (ctxs.new ≡ ctxs.old) }
 {
     let ctx = &ctxs[usize::from(h.0)];
@@ -226,9 +232,10 @@ fn reserve(ctxs: &mut [Context], map: &Map, h: Hart, insn: &Insn, width: u8) -> 
 fn store(ctxs: &mut [Context], map: &mut Map, h: Hart, insn: &Insn, width: u8) -> Result<(), Fault>
     requires hart { h.0 < length ctxs.old }
     requires width { IsWidth width }
-    ensures fault { result_err result ≡ store_fault map.old (address (context_of ctxs.old h.0) (fields_of insn.now)) width }
-    ensures contexts { OnOk result (ctxs.new ≡ contexts_in (Store width) ctxs.old map.old h.0 (fields_of insn.now)) }
-    ensures memory { OnOk result (map.new ≡ memory_in (Store width) map.old (context_of ctxs.old h.0) (fields_of insn.now)) }
+    ensures fault { result_err result ≡ store_fault map.old.memory (address (context_of ctxs.old h.0) (fields_of insn.now)) width }
+    ensures contexts { OnOk result (ctxs.new ≡ contexts_in (Store width) ctxs.old map.old.memory h.0 (fields_of insn.now)) }
+    ensures memory { OnOk result (map.new.memory ≡ memory_in (Store width) map.old.memory (context_of ctxs.old h.0) (fields_of insn.now)) }
+    ensures pages { KeepsUnmarked map.old map.new }
     ensures err { OnErr result ((ctxs.new ≡ ctxs.old) × (map.new ≡ map.old)) }
 {
     let mut ctx = ctxs[usize::from(h.0)];
@@ -245,9 +252,10 @@ fn atomic(ctxs: &mut [Context], map: &mut Map, h: Hart, insn: &Insn, width: u8) 
     requires hart { h.0 < length ctxs.old }
     requires width { IsWidth width }
     requires atomic { IsTrue (is_amo insn.now.op) }
-    ensures fault { result_err result ≡ store_fault map.old (register (context_of ctxs.old h.0) insn.now.rs1) width }
-    ensures contexts { OnOk result (ctxs.new ≡ contexts_in (Atomic width) ctxs.old map.old h.0 (fields_of insn.now)) }
-    ensures memory { OnOk result (map.new ≡ memory_in (Atomic width) map.old (context_of ctxs.old h.0) (fields_of insn.now)) }
+    ensures fault { result_err result ≡ store_fault map.old.memory (register (context_of ctxs.old h.0) insn.now.rs1) width }
+    ensures contexts { OnOk result (ctxs.new ≡ contexts_in (Atomic width) ctxs.old map.old.memory h.0 (fields_of insn.now)) }
+    ensures memory { OnOk result (map.new.memory ≡ memory_in (Atomic width) map.old.memory (context_of ctxs.old h.0) (fields_of insn.now)) }
+    ensures pages { KeepsUnmarked map.old map.new }
     ensures err { OnErr result ((ctxs.new ≡ ctxs.old) × (map.new ≡ map.old)) }
 {
     let mut ctx = ctxs[usize::from(h.0)];
@@ -272,8 +280,9 @@ fn end_on_granule(ctxs: &mut [Context], addr: u64)
 /// A store where it is known not to fault.
 fn put(map: &mut Map, addr: u64, width: u8, value: u64)
     requires width { IsWidth width }
-    requires right { store_fault map.old addr width ≡ None }
-    ensures { map.new ≡ after_store map.old addr width value }
+    requires right { store_fault map.old.memory addr width ≡ None }
+    ensures memory { map.new.memory ≡ after_store map.old.memory addr width value }
+    ensures pages { KeepsUnmarked map.old map.new }
 {
     match map.store(addr, width, value) {
         Ok(()) => {}
@@ -291,9 +300,10 @@ fn store_conditional(
 ) -> Result<(), Fault>
     requires hart { h.0 < length ctxs.old }
     requires width { IsWidth width }
-    ensures fault { result_err result ≡ store_fault map.old (register (context_of ctxs.old h.0) insn.now.rs1) width }
-    ensures contexts { OnOk result (ctxs.new ≡ contexts_in (Conditional width) ctxs.old map.old h.0 (fields_of insn.now)) }
-    ensures memory { OnOk result (map.new ≡ memory_in (Conditional width) map.old (context_of ctxs.old h.0) (fields_of insn.now)) }
+    ensures fault { result_err result ≡ store_fault map.old.memory (register (context_of ctxs.old h.0) insn.now.rs1) width }
+    ensures contexts { OnOk result (ctxs.new ≡ contexts_in (Conditional width) ctxs.old map.old.memory h.0 (fields_of insn.now)) }
+    ensures memory { OnOk result (map.new.memory ≡ memory_in (Conditional width) map.old.memory (context_of ctxs.old h.0) (fields_of insn.now)) }
+    ensures pages { KeepsUnmarked map.old map.new }
     ensures err { OnErr result ((ctxs.new ≡ ctxs.old) × (map.new ≡ map.old)) }
 {
     let ctx = &ctxs[usize::from(h.0)];
@@ -314,10 +324,11 @@ fn store_conditional(
 fn succeed(ctxs: &mut [Context], map: &mut Map, h: Hart, insn: &Insn, width: u8)
     requires hart { h.0 < length ctxs.old }
     requires width { IsWidth width }
-    requires right { store_fault map.old (register (context_of ctxs.old h.0) insn.now.rs1) width ≡ None }
+    requires right { store_fault map.old.memory (register (context_of ctxs.old h.0) insn.now.rs1) width ≡ None }
     requires holds { IsTrue (holds_reservation (context_of ctxs.old h.0) (fields_of insn.now)) }
-    ensures contexts { ctxs.new ≡ contexts_in (Conditional width) ctxs.old map.old h.0 (fields_of insn.now) }
-    ensures memory { map.new ≡ memory_in (Conditional width) map.old (context_of ctxs.old h.0) (fields_of insn.now) }
+    ensures contexts { ctxs.new ≡ contexts_in (Conditional width) ctxs.old map.old.memory h.0 (fields_of insn.now) }
+    ensures memory { map.new.memory ≡ memory_in (Conditional width) map.old.memory (context_of ctxs.old h.0) (fields_of insn.now) }
+    ensures pages { KeepsUnmarked map.old map.new }
 {
     let mut ctx = ctxs[usize::from(h.0)];
     let addr = first(&ctx, insn);

@@ -19,7 +19,7 @@ use rv_decode::{Insn, decode};
 /// "Faults"); None exactly where there is none. The word is the one at the pc; nothing is fetched.
 #[tactic(auto, unfolding(crate::specs::Faults::word_fault))]
 pub fn fault_of(ctx: &Context, harts: u8, map: &Map, word: u32) -> Option<Fault>
-    ensures { result ≡ word_fault ctx.now harts map.now word }
+    ensures { result ≡ word_fault ctx.now harts map.now.memory word }
 {
     let Some(insn) = decode(word) else {
         return Some(illegal(word));
@@ -41,7 +41,7 @@ pub fn illegal(word: u32) -> Fault
 fn own_fault(class: Class, ctx: &Context, harts: u8, map: &Map, insn: &Insn) -> Option<Fault>
     requires branch { class ≡ Branch → IsTrue (is_branch insn.now.op) }
     requires width { HasWidth class }
-    ensures { result ≡ own_fault class ctx.now harts map.now (fields_of insn.now) }
+    ensures { result ≡ own_fault class ctx.now harts map.now.memory (fields_of insn.now) }
 {
     match class {
         Class::Load { width, .. } => map.load(address(ctx, insn), width).err(),

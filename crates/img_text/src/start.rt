@@ -1,5 +1,6 @@
 ghost use Rattle.std.specs.Prelude.{◌≡◌, ◌≤◌, ◌<◌, IfOk};
 ghost use Rattle.mach_base.specs.Machine.{memory_of};
+ghost use Rattle.mem_map.specs.Pages.{unmarked};
 ghost use Rattle.img_text.specs.Boot.{first_text, first_context, first_contexts};
 
 use crate::image::Image;
@@ -11,7 +12,7 @@ use std::alloc::Global;
 /// What an image gives a machine at its start.
 #[derive(Debug, Drop)]
 pub struct Booted {
-    /// Memory, with the image's bytes.
+    /// Memory, with the image's bytes; no page is marked.
     pub map: Map,
     /// A context for each hart, in order.
     pub ctxs: Vec<Context>,
@@ -20,7 +21,8 @@ pub struct Booted {
 /// The memory of the image, and the contexts of so many harts at the start: each at the pc that the image gives it, else
 /// at the first text segment, and with the sp that the image gives it, else 0 (docs/formats.md, "Images").
 pub fn boot(alloc: Global, image: &Image, harts: u8) -> Result<Booted, OutOfMemory>
-    ensures memory { IfOk result (λ booted. booted.map ≡ memory_of image.now.parts) }
+    ensures memory { IfOk result (λ booted. booted.map.memory ≡ memory_of image.now.parts) }
+    ensures pages { IfOk result (λ booted. booted.map ≡ unmarked (memory_of image.now.parts)) }
     ensures contexts { IfOk result (λ booted. booted.ctxs.items ≡ first_contexts image.now harts) }
 {
     let map = boot_memory(alloc, image)?;
@@ -40,7 +42,7 @@ fn boot_contexts(alloc: Global, image: &Image, harts: u8) -> Result<Vec<Context>
 
 /// The memory that an image gives.
 fn boot_memory(alloc: Global, image: &Image) -> Result<Map, OutOfMemory>
-    ensures { IfOk result (λ map. map ≡ memory_of image.now.parts) }
+    ensures { IfOk result (λ map. map ≡ unmarked (memory_of image.now.parts)) }
 {
     let segments = image.segments();
     let mut contents = Vec::with_capacity(alloc, segments.len())?;

@@ -1,8 +1,10 @@
 pub mod Entries
 pub mod Natural
+pub mod Numbering
 pub mod Lookups
 pub mod Writes
 pub mod Numbers
 pub mod Stores
 pub mod Twice
+pub mod Kept
 pub mod Built

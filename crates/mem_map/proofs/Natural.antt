@@ -16,7 +16,7 @@ use Rattle.mem_map.specs.Parts.{IsWhole, AreParts, IsFirstAt, NoneHolds, IsAllow
 use Rattle.mem_map.proofs.Entries.{segment_at-first, segment_at-none, is_some-find, holds-true}
 
 -- between multiples of the width no bound of a segment lies
-below_too : (width bound addr k : ℕ) → IsWidth width → bound % 8 ≡ 0 → addr % width ≡ 0 → k < width → addr < bound → addr + k < bound
+pub below_too : (width bound addr k : ℕ) → IsWidth width → bound % 8 ≡ 0 → addr % width ≡ 0 → k < width → addr < bound → addr + k < bound
 below_too width bound addr k w b a h lt =
     elim w as (λ _. addr + k < bound) [
       | inl e ↦ omega (arith, e)
@@ -35,7 +35,7 @@ below_too width bound addr k w b a h lt =
     eight : addr % 8 ≡ 0 → k < 8 → addr + k < bound
     eight a h = omega arith
 
-holds-beside : (s : Segment) (width addr k : ℕ) → HasBounds s → IsWidth width → addr % width ≡ 0 → k < width → holds s (addr + k) ≡ holds s addr
+pub holds-beside : (s : Segment) (width addr k : ℕ) → HasBounds s → IsWidth width → addr % width ≡ 0 → k < width → holds s (addr + k) ≡ holds s addr
 holds-beside s width addr k b w a h =
     let low : leb s.base (addr + k) ≡ leb s.base addr =
     elim (cases_lt addr s.base) as (λ _. leb s.base (addr + k) ≡ leb s.base addr) [

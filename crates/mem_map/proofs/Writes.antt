@@ -12,7 +12,8 @@ use Rattle.mach_base.specs.declared.event.Fault.{Fault}
 use Rattle.mem_map.specs.declared.rights.Access.TheVariants.{Store}
 use Rattle.mach_base.specs.Bytes.{with_bytes, byte_of}
 use Rattle.mem_map.specs.Access.{access_fault, store_fault, after_store}
-use Rattle.mem_map.specs.Parts.{IsWhole, AreParts, IsAllowedIn, segments_of, IsFirstAt, with_number}
+use Rattle.mem_map.specs.Parts.{IsWhole, AreParts, IsAllowedIn, segments_of, IsFirstAt, with_each}
+use Rattle.mem_map.specs.Pages.{with_first, with_text}
 use Rattle.mem_map.proofs.Natural.{whole_at}
 use Rattle.mem_map.proofs.Entries.{either, find-append, find-part_outside, find-numbered_below, find-numbered_past, find-numbered_at, first_behind, holds-true}
 
@@ -117,9 +118,9 @@ memory_of-written ps addr i place byte d q are first e at is =
     ∙ ap (λ p. memory_of (set ps i (put_byte p (addr - p.segment.base) byte))) e
     ∙ memory_of-put ps addr i byte d are first
 
-length-with_number : (bytes : List ℕ) (place n value : ℕ) → length (with_number bytes place n value) ≡ length bytes
-length-with_number bytes place zero value = refl
-length-with_number bytes place (suc n) value = length-set (with_number bytes place n value) (place + n) (byte_of value n) ∙ length-with_number bytes place n value
+length-with_each : (bytes : List ℕ) (place n : ℕ) (others : ℕ → ℕ) → length (with_each bytes place others n) ≡ length bytes
+length-with_each bytes place zero others = refl
+length-with_each bytes place (suc n) others = length-set (with_each bytes place others n) (place + n) (others n) ∙ length-with_each bytes place n others
 
 -- a part that is replaced by one of the same segment is found as before
 first-set : (ps : List Part) (addr i : ℕ) (d q : Part) → IsFirstAt ps addr i → q.segment ≡ (get_or ps i d).segment → IsFirstAt (set ps i q) addr i
@@ -129,39 +130,61 @@ first-set ps addr i d q first e = record {
   before = λ k p h. ap (λ x. holds x.segment addr) (get_or-set_other ps i k q p (λ e'. omega arith)) ∙ first.before k p h;
 }
 
-abbrev put_number : Part → ℕ → ℕ → ℕ → Part
-put_number p place n value = record p { bytes = with_number p.bytes place n value }
+abbrev put_each : Part → ℕ → (ℕ → ℕ) → ℕ → Part
+put_each p place others n = record p { bytes = with_each p.bytes place others n }
 
 abbrev with_byte : Memory → ℕ → ℕ → Memory
 with_byte m addr byte = record m { bytes = insert m.bytes addr byte }
 
--- the lowest bytes of a number that are written through the part, one after another
-memory_of-numbered : (n : ℕ) (ps : List Part) (addr i place value : ℕ) (d : Part) → AreParts ps → ((k : ℕ) → k < n → IsFirstAt ps (addr + k) i) → i < length ps → d.segment.base ≤ addr → d ≡ get_or ps i d → place ≡ addr - d.segment.base → memory_of (set ps i (put_number d place n value)) ≡ record (memory_of ps) { bytes = with_bytes (memory_of ps).bytes addr n value }
-memory_of-numbered zero ps addr i place value d are first within low e at = ap (λ p. memory_of (set ps i p)) e ∙ ap memory_of (set-get_or ps i d)
-memory_of-numbered (suc n) ps addr i place value d are first within low e at =
-    let so_far = put_number d place n value in
+-- memory with other bytes, given by their number from 0 on, from the address on: so many of them
+abbrev pub with_others : Memory → ℕ → (ℕ → ℕ) → ℕ → Memory
+with_others m addr others zero = m
+with_others m addr others (suc n) = with_byte (with_others m addr others n) (addr + n) (others n)
+
+-- bytes that are written through the part, one after another
+memory_of-each : (n : ℕ) (ps : List Part) (addr i place : ℕ) (others : ℕ → ℕ) (d : Part) → AreParts ps → ((k : ℕ) → k < n → IsFirstAt ps (addr + k) i) → i < length ps → d.segment.base ≤ addr → d ≡ get_or ps i d → place ≡ addr - d.segment.base → memory_of (set ps i (put_each d place others n)) ≡ with_others (memory_of ps) addr others n
+memory_of-each zero ps addr i place others d are first within low e at = ap (λ p. memory_of (set ps i p)) e ∙ ap memory_of (set-get_or ps i d)
+memory_of-each (suc n) ps addr i place others d are first within low e at =
+    let so_far = put_each d place others n in
     let ps' = set ps i so_far in
     let whole : IsWhole (get_or ps i d) = whole_at ps i d are.whole within in
-    let whole' : IsWhole so_far = length-with_number d.bytes place n value ∙ ap (λ p. length p.bytes) e ∙ whole ∙ ap (λ p. p.segment.len) (sym e) in
+    let whole' : IsWhole so_far = length-with_each d.bytes place n others ∙ ap (λ p. length p.bytes) e ∙ whole ∙ ap (λ p. p.segment.len) (sym e) in
     let are' = are-set ps i d so_far are (ap (λ p. p.segment) e) whole' in
     let first' = first-set ps (addr + n) i d so_far (first n (omega arith)) (ap (λ p. p.segment) e) in
     let at' : place + n ≡ addr + n - d.segment.base = omega arith in
-    ap memory_of (sym (set-set ps i so_far (put_byte so_far (place + n) (byte_of value n))))
-    ∙ memory_of-written ps' (addr + n) i (place + n) (byte_of value n) so_far (put_byte so_far (place + n) (byte_of value n)) are' first' (sym (get_or-set_same ps i so_far so_far within)) at' refl
-    ∙ ap (λ m. with_byte m (addr + n) (byte_of value n)) (memory_of-numbered n ps addr i place value d are (λ k h. first k (omega arith)) within low e at)
+    ap memory_of (sym (set-set ps i so_far (put_byte so_far (place + n) (others n))))
+    ∙ memory_of-written ps' (addr + n) i (place + n) (others n) so_far (put_byte so_far (place + n) (others n)) are' first' (sym (get_or-set_same ps i so_far so_far within)) at' refl
+    ∙ ap (λ m. with_byte m (addr + n) (others n)) (memory_of-each n ps addr i place others d are (λ k h. first k (omega arith)) within low e at)
 
-pub are-after_store : (ps : List Part) (i place width value : ℕ) (d q : Part) → AreParts ps → i < length ps → d ≡ get_or ps i d → q ≡ put_number d place width value → AreParts (set ps i q)
-are-after_store ps i place width value d q are within e is =
+pub are-each : (ps : List Part) (i place n : ℕ) (others : ℕ → ℕ) (d q : Part) → AreParts ps → i < length ps → d ≡ get_or ps i d → q ≡ put_each d place others n → AreParts (set ps i q)
+are-each ps i place n others d q are within e is =
     let whole : IsWhole (get_or ps i d) = whole_at ps i d are.whole within in
-    let same : IsWhole (put_number d place width value) = length-with_number d.bytes place width value ∙ ap (λ p. length p.bytes) e ∙ whole ∙ ap (λ p. p.segment.len) (sym e) in
+    let same : IsWhole (put_each d place others n) = length-with_each d.bytes place n others ∙ ap (λ p. length p.bytes) e ∙ whole ∙ ap (λ p. p.segment.len) (sym e) in
     are-set ps i d q are (ap (λ p. p.segment) is ∙ ap (λ p. p.segment) e) (rw is same)
 
+-- the segments of parts of which one is written to
+pub segments_of-each : (ps : List Part) (i place n : ℕ) (others : ℕ → ℕ) (d q : Part) → d ≡ get_or ps i d → q ≡ put_each d place others n → segments_of (set ps i q) ≡ segments_of ps
+segments_of-each ps i place n others d q e is = segments_of-set ps i d q (ap (λ p. p.segment) is ∙ ap (λ p. p.segment) e)
+
+with_others-value : (m : Memory) (addr n value : ℕ) → with_others m addr (byte_of value) n ≡ record m { bytes = with_bytes m.bytes addr n value }
+with_others-value m addr zero value = refl
+with_others-value m addr (suc n) value = ap (λ x. with_byte x (addr + n) (byte_of value n)) (with_others-value m addr n value)
+
+with_others-text : (m : Memory) (addr n : ℕ) (text : List ℕ) → with_others m addr (λ k. get_or text k 0) n ≡ record m { bytes = with_first m.bytes addr text n }
+with_others-text m addr zero text = refl
+with_others-text m addr (suc n) text = ap (λ x. with_byte x (addr + n) (get_or text n 0)) (with_others-text m addr n text)
+
 -- the number that is written through the part
-pub memory_of-after_store : (ps : List Part) (addr width i place value : ℕ) (d q : Part) → AreParts ps → IsAllowedIn ps Store addr width i → d ≡ get_or ps i d → place ≡ addr - d.segment.base → q ≡ put_number d place width value → memory_of (set ps i q) ≡ after_store (memory_of ps) addr width value
+pub memory_of-after_store : (ps : List Part) (addr width i place value : ℕ) (d q : Part) → AreParts ps → IsAllowedIn ps Store addr width i → d ≡ get_or ps i d → place ≡ addr - d.segment.base → q ≡ put_each d place (byte_of value) width → memory_of (set ps i q) ≡ after_store (memory_of ps) addr width value
 unfolding after_store
 memory_of-after_store ps addr width i place value d q are may e at is =
     let low : d.segment.base ≤ addr = rw e (may.low d) in
-    ap (λ p. memory_of (set ps i p)) is ∙ memory_of-numbered width ps addr i place value d are may.first may.within low e at
+    ap (λ p. memory_of (set ps i p)) is ∙ memory_of-each width ps addr i place (byte_of value) d are may.first may.within low e at ∙ with_others-value (memory_of ps) addr width value
+
+-- the text that is written through the part
+pub memory_of-with_text : (ps : List Part) (addr i place : ℕ) (text : List ℕ) (d q : Part) → AreParts ps → ((k : ℕ) → k < length text → IsFirstAt ps (addr + k) i) → i < length ps → d.segment.base ≤ addr → d ≡ get_or ps i d → place ≡ addr - d.segment.base → q ≡ put_each d place (λ k. get_or text k 0) (length text) → memory_of (set ps i q) ≡ with_text (memory_of ps) addr text
+memory_of-with_text ps addr i place text d q are first within low e at is =
+    ap (λ p. memory_of (set ps i p)) is ∙ memory_of-each (length text) ps addr i place (λ k. get_or text k 0) d are first within low e at ∙ with_others-text (memory_of ps) addr (length text) text
 
 pub store_fault-Some : (m : Memory) (addr width : ℕ) (fault : Fault) → access_fault m Store addr width ≡ Some fault → store_fault m addr width ≡ Some fault
 unfolding store_fault

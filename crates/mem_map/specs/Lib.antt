@@ -1,3 +1,4 @@
 pub mod Access
 pub mod Parts
+pub mod Pages
 pub mod Laws

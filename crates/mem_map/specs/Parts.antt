@@ -46,10 +46,18 @@ abbrev pub number_at : List ℕ → ℕ → ℕ → ℕ
 number_at bytes place zero = 0
 number_at bytes place (suc n) = number_at bytes place n + slice_index bytes (place + n) * 256 ^ n
 
+-- the bytes with others, given by their number from 0 on, from this place on: so many of them
+abbrev pub with_each : List ℕ → ℕ → (ℕ → ℕ) → ℕ → List ℕ
+with_each bytes place others zero = bytes
+with_each bytes place others (suc n) = slice_set (with_each bytes place others n) (place + n) (others n)
+
 -- the bytes with the lowest `width` bytes of the number from this place on
 abbrev pub with_number : List ℕ → ℕ → ℕ → ℕ → List ℕ
-with_number bytes place zero value = bytes
-with_number bytes place (suc n) value = slice_set (with_number bytes place n value) (place + n) (byte_of value n)
+with_number bytes place width value = with_each bytes place (byte_of value) width
+
+-- the bytes with the first so many bytes of a text from this place on
+abbrev pub with_text : List ℕ → ℕ → List ℕ → ℕ → List ℕ
+with_text bytes place text n = with_each bytes place (slice_index text) n
 
 -- no part holds the address
 abbrev pub NoneHolds : List Part → ℕ → Type 0
@@ -60,6 +68,12 @@ pub record IsFirstAt (parts : List Part) (addr i : ℕ) : Type 0 where
   pub within : i < length parts
   pub here : (p : Part) → holds (slice_index_or parts i p).segment addr ≡ true
   pub before : (k : ℕ) (p : Part) → k < i → holds (slice_index_or parts k p).segment addr ≡ false
+
+-- the first so many parts begin at the address or below it, the others above it
+pub record AreBegun (parts : List Part) (addr count : ℕ) : Type 0 where
+  pub within : count ≤ length parts
+  pub low : (k : ℕ) (p : Part) → k < count → (slice_index_or parts k p).segment.base ≤ addr
+  pub high : (k : ℕ) (p : Part) → count ≤ k → k < length parts → addr < (slice_index_or parts k p).segment.base
 
 -- every byte of the access falls into part `i`, and the access doesn't fault
 pub record IsAllowedIn (parts : List Part) (access : Access) (addr width i : ℕ) : Type 0 where

@@ -12,6 +12,7 @@
 
 mod laws;
 mod memory;
+mod pages;
 mod piece;
 mod rights;
 
@@ -21,3 +22,4 @@ pub use laws::{
 };
 pub use mach_base::{Kind, Segment};
 pub use memory::Map;
+pub use pages::{PAGE_BYTES, Page};

@@ -1,8 +1,10 @@
-ghost use Rattle.std.specs.Prelude.{◌≡◌, ℕ, ◌+◌, ◌-◌, ◌^◌, ◌<◌, ◌≤◌, IfOk, IsTrue, length, slice_index, slice_set};
+ghost use Rattle.std.specs.Prelude.{◌≡◌, ℕ, ◌+◌, ◌-◌, ◌^◌, ◌<◌, ◌≤◌, IfOk, IsTrue, length, drop, slice_index, slice_set, take};
 ghost use Rattle.mach_base.specs.Machine.{holds};
 ghost use Rattle.mach_base.specs.Bytes.{IsWidth};
-ghost use Rattle.mem_map.specs.Parts.{zero_part, number_at, with_number};
+ghost use Rattle.mem_map.specs.Parts.{zero_part, number_at, with_number, with_text};
+ghost use Rattle.mem_map.specs.declared.pages.TheConstants.{PAGE_BYTES};
 
+use crate::pages::PAGE_BYTES;
 use mach_base::{Kind, OutOfMemory, Segment};
 use std::alloc::Global;
 use std::marker::Model;
@@ -58,6 +60,22 @@ impl Piece {
         ensures { result ≡ addr - self.now.segment.base }
     {
         (addr - self.segment.base) as usize
+    }
+
+    /// The address of the first byte.
+    pub fn base(&self) -> u64
+        ensures { result ≡ self.now.segment.base }
+    {
+        self.segment.base
+    }
+
+    /// The bytes from this place on, at most as many as a page has.
+    pub fn page(&self, place: usize) -> &[u8]
+        requires { place ≤ length self.now.bytes }
+        ensures { result.now ≡ take PAGE_BYTES (drop place self.now.bytes) }
+    {
+        let rest = &self.bytes[place..];
+        &rest[..rest.len().min(PAGE_BYTES as usize)]
     }
 
     pub fn byte(&self, place: usize) -> u8
@@ -139,6 +157,16 @@ impl Piece {
         for k in 0..width {
             self.bytes[place + usize::from(k)] = (rest % 256) as u8;
             rest /= 256;
+        }
+    }
+
+    /// Writes a text from this place on.
+    pub fn put_text(&mut self, place: usize, text: &[u8])
+        requires { place + length text.now ≤ length self.old.bytes }
+        ensures { self.new ≡ record self.old { bytes = with_text self.old.bytes place text.now (length text.now) } }
+    {
+        for (k, byte) in text.iter().enumerate() {
+            self.bytes[place + k] = *byte;
         }
     }
 }

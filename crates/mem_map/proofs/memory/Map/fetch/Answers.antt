@@ -18,4 +18,4 @@ pub returns : goal.returns
 returns c =
     let may : IsAllowedIn c.self.inside.pieces.items Fetch c.args.addr 4 c.in_ok-i.i = rw (← c.as_slice-pieces.ensures.value) c.in_ok-i.ensures in
     let piece : c.index-pieces-i.result ≡ get_or c.self.inside.pieces.items c.in_ok-i.i c.index-pieces-i.result = rw (← c.as_slice-pieces.ensures.value) c.index-pieces-i.is in
-    rw (← c.self.view_is) (sym (fetch_result-read c.self.inside.pieces.items c.args.addr c.in_ok-i.i c.place.result c.word.result c.index-pieces-i.result c.self.invariant may piece c.place.ensures c.word.ensures))
+    rw (← c.self.view_is) (sym (fetch_result-read c.self.inside.pieces.items c.args.addr c.in_ok-i.i c.place.result c.word.result c.index-pieces-i.result c.self.invariant.parts may piece c.place.ensures c.word.ensures))

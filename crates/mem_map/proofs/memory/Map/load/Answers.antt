@@ -18,4 +18,4 @@ pub returns-clause-value : goal.returns-clause-value
 returns-clause-value c =
     let may : IsAllowedIn c.self.inside.pieces.items Load c.args.addr c.args.width c.in_ok-i.i = rw (← c.as_slice-pieces.ensures.value) c.in_ok-i.ensures in
     let piece : c.index-pieces-i.result ≡ get_or c.self.inside.pieces.items c.in_ok-i.i c.index-pieces-i.result = rw (← c.as_slice-pieces.ensures.value) c.index-pieces-i.is in
-    rw (← c.self.view_is) (sym (load_result-read c.self.inside.pieces.items c.args.addr c.args.width c.in_ok-i.i c.place.result c.number.result c.index-pieces-i.result c.self.invariant may piece c.place.ensures c.number.ensures.value))
+    rw (← c.self.view_is) (sym (load_result-read c.self.inside.pieces.items c.args.addr c.args.width c.in_ok-i.i c.place.result c.number.result c.index-pieces-i.result c.self.invariant.parts may piece c.place.ensures c.number.ensures.value))
