@@ -73,3 +73,26 @@ fn plants_and_pulls(rt: HostRuntime) -> Result<(), Fail> {
     assert_eq!(rt; memory.raw().fetch(0x1004), Ok(0x00a5_b123));
     Ok(())
 }
+
+/// The marks of the two pages.
+fn marks(memory: &Planted) -> (Option<bool>, Option<bool>) {
+    let raw = memory.raw();
+    (
+        raw.page(0).map(|page| page.changed),
+        raw.page(1).map(|page| page.changed),
+    )
+}
+
+#[test]
+fn writes_and_marks_pages(rt: HostRuntime) -> Result<(), Fail> {
+    let mut memory = Planted::new(Map::new(rt.alloc(), &SEGMENTS)?);
+    memory.put_page(1, &[1, 2, 3, 4, 5, 6, 7, 8]);
+    assert_eq!(rt; memory.peek(0x2007), Some(8));
+    assert_eq!(rt; marks(&memory), (Some(false), Some(true)));
+    memory.settle();
+    assert!(rt; memory.is_text(0x1008) && !memory.is_planted(0x1008));
+    assert!(rt; memory.planted_at(0).is_none());
+    memory.plant(0, 0x1008);
+    assert_eq!(rt; marks(&memory), (Some(true), Some(false)));
+    Ok(())
+}

@@ -118,3 +118,43 @@ fn writes_by_rights(rt: HostRuntime) -> Result<(), Fail> {
     assert_eq!(rt; (map.peek(0x1001), map.peek(0x1010)), (Some(0x5a), None));
     Ok(())
 }
+
+/// A page's base, its size and its mark.
+fn shape(map: &Map, number: usize) -> Option<(u64, usize, bool)> {
+    map.page(number)
+        .map(|page| (page.base, page.bytes.len(), page.changed))
+}
+
+#[test]
+fn cuts_pages_from_each_base(rt: HostRuntime) -> Result<(), Fail> {
+    let segments = [
+        Segment {
+            base: 0x1000,
+            len: 8200,
+            kind: Kind::Data,
+        },
+        Segment {
+            base: 0x4000,
+            len: 8,
+            kind: Kind::Text,
+        },
+    ];
+    let mut map = Map::new(rt.alloc(), &segments)?;
+    map.put_page(2, &[1, 2, 3, 4, 5, 6, 7, 8]);
+    assert_eq!(rt; map.load(0x3000, 8), Ok(0x0807_0605_0403_0201));
+    assert_eq!(rt; map.page_count(), 4);
+    assert_eq!(rt; shape(&map, 2), Some((0x3000, 8, true)));
+    map.settle();
+    assert_eq!(rt; map.store(0x2ff8, 8, 7), Ok(()));
+    assert!(rt; map.poke(0x4007, 9) && !map.poke(0x3008, 9));
+    for (number, page) in [
+        (0, Some((0x1000, 4096, false))),
+        (1, Some((0x2000, 4096, true))),
+        (2, Some((0x3000, 8, false))),
+        (3, Some((0x4000, 8, true))),
+        (4, None),
+    ] {
+        assert_eq!(rt; shape(&map, number), page, "page {number}");
+    }
+    Ok(())
+}
