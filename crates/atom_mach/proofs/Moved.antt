@@ -1,5 +1,5 @@
 -- What a step leaves, by whether it was made.
-use Rattle.std.proofs.Common.{◌≡◌, ℕ, Bool, true, false, List, [], Some, None}
+use Rattle.std.proofs.Common.{◌≡◌, ℕ, Bool, true, false, List, [], Some, None, sym, ap, ◌∙◌}
 use Rattle.atom_mach.specs.declared.step.AStep.{AStep}
 use Rattle.atom_mach.specs.State.{State}
 use Rattle.atom_mach.specs.Step.{does}
@@ -20,3 +20,12 @@ unmoved s step text next false m e = m.1
 pub silent : (s : State) (step : AStep) (text : List ℕ) (next : State) (ok : Bool) → Moves s step ok text next → ok ≡ false → text ≡ []
 silent s step text next true m e = absurd (cc)
 silent s step text next false m e = m.2
+
+-- Steps that are tried one after another: what the state is that the next one is tried in, and what was refused.
+
+pub still : (start now : State) (step : AStep) (text : List ℕ) (next : State) (ok : Bool) → ◌≡◌ {A = State} now start → Moves now step ok text next → ok ≡ false → (does start step ≡ None) × ◌≡◌ {A = State} next start
+still start now step text next ok same m e =
+    (sym (ap (λ (s : State). does s step) same) ∙ refused now step text next ok m e, unmoved now step text next ok m e ∙ same)
+
+pub then-made : (start now : State) (step : AStep) (text : List ℕ) (next : State) (ok : Bool) → ◌≡◌ {A = State} now start → Moves now step ok text next → ok ≡ true → does start step ≡ Some (record { text = text; next = next })
+then-made start now step text next ok same m e = sym (ap (λ (s : State). does s step) same) ∙ made now step text next ok m e

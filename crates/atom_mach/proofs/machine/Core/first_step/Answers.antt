@@ -1,10 +1,8 @@
-use Rattle.std.proofs.Common.{◌≡◌, None, sym, ap, ◌∙◌, arith}
+use Rattle.std.proofs.Common.{refl, arith}
 use Rattle.mach_base.specs.declared.event.Ending.TheVariants.{AllHalted, StepLimit}
 use Rattle.atom_mach.specs.declared.step.AStep.TheVariants.{Instr, Intr, Session, Off}
-use Rattle.atom_mach.specs.State.{State}
-use Rattle.atom_mach.specs.Step.{does}
 use Rattle.atom_mach.specs.Core.{state_of}
-use Rattle.atom_mach.proofs.Moved.{made, refused, unmoved}
+use Rattle.atom_mach.proofs.Moved.{still, then-made}
 use Rattle.atom_mach.proofs.Allowed.{alone_of}
 use Rattle.atom_mach.proofs.FirstSteps.{some_allowed, first_allowed-Intr, first_allowed-Session, first_allowed-Instr, first_allowed-AllHalted, first_allowed-StepLimit}
 use Rattle.atom_mach.proofs.LessWork.{less-Intr, less-Session, less-Instr, less-AllHalted, less-StepLimit}
@@ -12,115 +10,80 @@ use Rattle.atom_mach.proofs.machine.Core.first_step.Goals as goal
 
 pub returns-then-branch-clause-step : goal.returns-then-branch-clause-step
 returns-then-branch-clause-step c =
-    let start = c.args.self.now in
-    let done = made _ _ _ _ _ c.in_ok-try_step.ensures.step c.if-branch.true in
-    (Intr (record { 0 = 0 }), first_allowed-Intr (state_of start) _ done, done)
+    let done = then-made (state_of c.args.self.now) _ (Intr (record { 0 = 0 })) _ _ _ refl c.in_ok-try_step.ensures.step c.if-branch.true in
+    (Intr (record { 0 = 0 }), first_allowed-Intr (state_of c.args.self.now) _ done, done)
 
 pub returns-then-branch-2-clause-step : goal.returns-then-branch-2-clause-step
 returns-then-branch-2-clause-step c =
-    let start = c.args.self.now in
-    let no1 : does (state_of start) (Intr (record { 0 = 0 })) ≡ None = refused _ _ _ _ _ c.in_ok-try_step.ensures.step c.if-branch.false in
-    let same1 : ◌≡◌ {A = State} (state_of c.try_step.new.self) (state_of start) = unmoved _ _ _ _ _ c.in_ok-try_step.ensures.step c.if-branch.false in
-    let done = sym (ap (λ (s : State). does s (Session (record { 0 = 0 }))) same1) ∙ made _ _ _ _ _ c.in_ok-try_step-2.ensures.step c.if-branch-2.true in
-    (Session (record { 0 = 0 }), first_allowed-Session (state_of start) _ no1 done, done)
+    let a = still (state_of c.args.self.now) _ (Intr (record { 0 = 0 })) _ _ _ refl c.in_ok-try_step.ensures.step c.if-branch.false in
+    let done = then-made (state_of c.args.self.now) _ (Session (record { 0 = 0 })) _ _ _ a.1 c.in_ok-try_step-2.ensures.step c.if-branch-2.true in
+    (Session (record { 0 = 0 }), first_allowed-Session (state_of c.args.self.now) _ a.0 done, done)
 
 pub returns-then-branch-3-clause-step : goal.returns-then-branch-3-clause-step
 returns-then-branch-3-clause-step c =
-    let start = c.args.self.now in
-    let no1 : does (state_of start) (Intr (record { 0 = 0 })) ≡ None = refused _ _ _ _ _ c.in_ok-try_step.ensures.step c.if-branch.false in
-    let same1 : ◌≡◌ {A = State} (state_of c.try_step.new.self) (state_of start) = unmoved _ _ _ _ _ c.in_ok-try_step.ensures.step c.if-branch.false in
-    let no2 : does (state_of start) (Session (record { 0 = 0 })) ≡ None = sym (ap (λ (s : State). does s (Session (record { 0 = 0 }))) same1) ∙ refused _ _ _ _ _ c.in_ok-try_step-2.ensures.step c.if-branch-2.false in
-    let same2 : ◌≡◌ {A = State} (state_of c.try_step-2.new.self) (state_of start) = unmoved _ _ _ _ _ c.in_ok-try_step-2.ensures.step c.if-branch-2.false ∙ same1 in
-    let done = sym (ap (λ (s : State). does s (Instr (record { 0 = 0 }))) same2) ∙ made _ _ _ _ _ c.in_ok-try_step-3.ensures.step c.if-branch-3.true in
-    (Instr (record { 0 = 0 }), first_allowed-Instr (state_of start) _ no1 no2 done, done)
+    let a = still (state_of c.args.self.now) _ (Intr (record { 0 = 0 })) _ _ _ refl c.in_ok-try_step.ensures.step c.if-branch.false in
+    let b = still (state_of c.args.self.now) _ (Session (record { 0 = 0 })) _ _ _ a.1 c.in_ok-try_step-2.ensures.step c.if-branch-2.false in
+    let done = then-made (state_of c.args.self.now) _ (Instr (record { 0 = 0 })) _ _ _ b.1 c.in_ok-try_step-3.ensures.step c.if-branch-3.true in
+    (Instr (record { 0 = 0 }), first_allowed-Instr (state_of c.args.self.now) _ a.0 b.0 done, done)
 
 pub returns-then-branch-4-clause-step : goal.returns-then-branch-4-clause-step
 returns-then-branch-4-clause-step c =
-    let start = c.args.self.now in
-    let no1 : does (state_of start) (Intr (record { 0 = 0 })) ≡ None = refused _ _ _ _ _ c.in_ok-try_step.ensures.step c.if-branch.false in
-    let same1 : ◌≡◌ {A = State} (state_of c.try_step.new.self) (state_of start) = unmoved _ _ _ _ _ c.in_ok-try_step.ensures.step c.if-branch.false in
-    let no2 : does (state_of start) (Session (record { 0 = 0 })) ≡ None = sym (ap (λ (s : State). does s (Session (record { 0 = 0 }))) same1) ∙ refused _ _ _ _ _ c.in_ok-try_step-2.ensures.step c.if-branch-2.false in
-    let same2 : ◌≡◌ {A = State} (state_of c.try_step-2.new.self) (state_of start) = unmoved _ _ _ _ _ c.in_ok-try_step-2.ensures.step c.if-branch-2.false ∙ same1 in
-    let no3 : does (state_of start) (Instr (record { 0 = 0 })) ≡ None = sym (ap (λ (s : State). does s (Instr (record { 0 = 0 }))) same2) ∙ refused _ _ _ _ _ c.in_ok-try_step-3.ensures.step c.if-branch-3.false in
-    let same3 : ◌≡◌ {A = State} (state_of c.try_step-3.new.self) (state_of start) = unmoved _ _ _ _ _ c.in_ok-try_step-3.ensures.step c.if-branch-3.false ∙ same2 in
-    let done = sym (ap (λ (s : State). does s (Off AllHalted)) same3) ∙ made _ _ _ _ _ c.in_ok-try_step-4.ensures.step c.if-branch-4.true in
-    (Off AllHalted, first_allowed-AllHalted (state_of start) _ no1 no2 no3 done, done)
+    let a = still (state_of c.args.self.now) _ (Intr (record { 0 = 0 })) _ _ _ refl c.in_ok-try_step.ensures.step c.if-branch.false in
+    let b = still (state_of c.args.self.now) _ (Session (record { 0 = 0 })) _ _ _ a.1 c.in_ok-try_step-2.ensures.step c.if-branch-2.false in
+    let d = still (state_of c.args.self.now) _ (Instr (record { 0 = 0 })) _ _ _ b.1 c.in_ok-try_step-3.ensures.step c.if-branch-3.false in
+    let done = then-made (state_of c.args.self.now) _ (Off AllHalted) _ _ _ d.1 c.in_ok-try_step-4.ensures.step c.if-branch-4.true in
+    (Off AllHalted, first_allowed-AllHalted (state_of c.args.self.now) _ a.0 b.0 d.0 done, done)
 
 pub returns-then-branch-5-clause-step : goal.returns-then-branch-5-clause-step
 returns-then-branch-5-clause-step c =
-    let start = c.args.self.now in
-    let no1 : does (state_of start) (Intr (record { 0 = 0 })) ≡ None = refused _ _ _ _ _ c.in_ok-try_step.ensures.step c.if-branch.false in
-    let same1 : ◌≡◌ {A = State} (state_of c.try_step.new.self) (state_of start) = unmoved _ _ _ _ _ c.in_ok-try_step.ensures.step c.if-branch.false in
-    let no2 : does (state_of start) (Session (record { 0 = 0 })) ≡ None = sym (ap (λ (s : State). does s (Session (record { 0 = 0 }))) same1) ∙ refused _ _ _ _ _ c.in_ok-try_step-2.ensures.step c.if-branch-2.false in
-    let same2 : ◌≡◌ {A = State} (state_of c.try_step-2.new.self) (state_of start) = unmoved _ _ _ _ _ c.in_ok-try_step-2.ensures.step c.if-branch-2.false ∙ same1 in
-    let no3 : does (state_of start) (Instr (record { 0 = 0 })) ≡ None = sym (ap (λ (s : State). does s (Instr (record { 0 = 0 }))) same2) ∙ refused _ _ _ _ _ c.in_ok-try_step-3.ensures.step c.if-branch-3.false in
-    let same3 : ◌≡◌ {A = State} (state_of c.try_step-3.new.self) (state_of start) = unmoved _ _ _ _ _ c.in_ok-try_step-3.ensures.step c.if-branch-3.false ∙ same2 in
-    let no4 : does (state_of start) (Off AllHalted) ≡ None = sym (ap (λ (s : State). does s (Off AllHalted)) same3) ∙ refused _ _ _ _ _ c.in_ok-try_step-4.ensures.step c.if-branch-4.false in
-    let same4 : ◌≡◌ {A = State} (state_of c.try_step-4.new.self) (state_of start) = unmoved _ _ _ _ _ c.in_ok-try_step-4.ensures.step c.if-branch-4.false ∙ same3 in
-    let done = sym (ap (λ (s : State). does s (Off StepLimit)) same4) ∙ made _ _ _ _ _ c.in_ok-try_step-5.ensures.step c.if-branch-5.true in
-    (Off StepLimit, first_allowed-StepLimit (state_of start) _ no1 no2 no3 no4 done, done)
+    let a = still (state_of c.args.self.now) _ (Intr (record { 0 = 0 })) _ _ _ refl c.in_ok-try_step.ensures.step c.if-branch.false in
+    let b = still (state_of c.args.self.now) _ (Session (record { 0 = 0 })) _ _ _ a.1 c.in_ok-try_step-2.ensures.step c.if-branch-2.false in
+    let d = still (state_of c.args.self.now) _ (Instr (record { 0 = 0 })) _ _ _ b.1 c.in_ok-try_step-3.ensures.step c.if-branch-3.false in
+    let e = still (state_of c.args.self.now) _ (Off AllHalted) _ _ _ d.1 c.in_ok-try_step-4.ensures.step c.if-branch-4.false in
+    let done = then-made (state_of c.args.self.now) _ (Off StepLimit) _ _ _ e.1 c.in_ok-try_step-5.ensures.step c.if-branch-5.true in
+    (Off StepLimit, first_allowed-StepLimit (state_of c.args.self.now) _ a.0 b.0 d.0 e.0 done, done)
 
 pub returns-then-branch-clause-less : goal.returns-then-branch-clause-less
 returns-then-branch-clause-less c =
-    let start = c.args.self.now in
-    let done = made _ _ _ _ _ c.in_ok-try_step.ensures.step c.if-branch.true in
-    less-Intr (state_of start) _ done
+    let done = then-made (state_of c.args.self.now) _ (Intr (record { 0 = 0 })) _ _ _ refl c.in_ok-try_step.ensures.step c.if-branch.true in
+    less-Intr (state_of c.args.self.now) _ done
 
 pub returns-then-branch-2-clause-less : goal.returns-then-branch-2-clause-less
 returns-then-branch-2-clause-less c =
-    let start = c.args.self.now in
-    let no1 : does (state_of start) (Intr (record { 0 = 0 })) ≡ None = refused _ _ _ _ _ c.in_ok-try_step.ensures.step c.if-branch.false in
-    let same1 : ◌≡◌ {A = State} (state_of c.try_step.new.self) (state_of start) = unmoved _ _ _ _ _ c.in_ok-try_step.ensures.step c.if-branch.false in
-    let done = sym (ap (λ (s : State). does s (Session (record { 0 = 0 }))) same1) ∙ made _ _ _ _ _ c.in_ok-try_step-2.ensures.step c.if-branch-2.true in
-    less-Session (state_of start) _ c.requires.running done
+    let a = still (state_of c.args.self.now) _ (Intr (record { 0 = 0 })) _ _ _ refl c.in_ok-try_step.ensures.step c.if-branch.false in
+    let done = then-made (state_of c.args.self.now) _ (Session (record { 0 = 0 })) _ _ _ a.1 c.in_ok-try_step-2.ensures.step c.if-branch-2.true in
+    less-Session (state_of c.args.self.now) _ c.requires.running done
 
 pub returns-then-branch-3-clause-less : goal.returns-then-branch-3-clause-less
 returns-then-branch-3-clause-less c =
-    let start = c.args.self.now in
-    let no1 : does (state_of start) (Intr (record { 0 = 0 })) ≡ None = refused _ _ _ _ _ c.in_ok-try_step.ensures.step c.if-branch.false in
-    let same1 : ◌≡◌ {A = State} (state_of c.try_step.new.self) (state_of start) = unmoved _ _ _ _ _ c.in_ok-try_step.ensures.step c.if-branch.false in
-    let no2 : does (state_of start) (Session (record { 0 = 0 })) ≡ None = sym (ap (λ (s : State). does s (Session (record { 0 = 0 }))) same1) ∙ refused _ _ _ _ _ c.in_ok-try_step-2.ensures.step c.if-branch-2.false in
-    let same2 : ◌≡◌ {A = State} (state_of c.try_step-2.new.self) (state_of start) = unmoved _ _ _ _ _ c.in_ok-try_step-2.ensures.step c.if-branch-2.false ∙ same1 in
-    let done = sym (ap (λ (s : State). does s (Instr (record { 0 = 0 }))) same2) ∙ made _ _ _ _ _ c.in_ok-try_step-3.ensures.step c.if-branch-3.true in
-    less-Instr (state_of start) _ (alone_of start.contexts.len start.mode c.requires.one_hart start.fits) done
+    let a = still (state_of c.args.self.now) _ (Intr (record { 0 = 0 })) _ _ _ refl c.in_ok-try_step.ensures.step c.if-branch.false in
+    let b = still (state_of c.args.self.now) _ (Session (record { 0 = 0 })) _ _ _ a.1 c.in_ok-try_step-2.ensures.step c.if-branch-2.false in
+    let done = then-made (state_of c.args.self.now) _ (Instr (record { 0 = 0 })) _ _ _ b.1 c.in_ok-try_step-3.ensures.step c.if-branch-3.true in
+    less-Instr (state_of c.args.self.now) _ (alone_of c.args.self.now.contexts.len c.args.self.now.mode c.requires.one_hart c.args.self.now.fits) done
 
 pub returns-then-branch-4-clause-less : goal.returns-then-branch-4-clause-less
 returns-then-branch-4-clause-less c =
-    let start = c.args.self.now in
-    let no1 : does (state_of start) (Intr (record { 0 = 0 })) ≡ None = refused _ _ _ _ _ c.in_ok-try_step.ensures.step c.if-branch.false in
-    let same1 : ◌≡◌ {A = State} (state_of c.try_step.new.self) (state_of start) = unmoved _ _ _ _ _ c.in_ok-try_step.ensures.step c.if-branch.false in
-    let no2 : does (state_of start) (Session (record { 0 = 0 })) ≡ None = sym (ap (λ (s : State). does s (Session (record { 0 = 0 }))) same1) ∙ refused _ _ _ _ _ c.in_ok-try_step-2.ensures.step c.if-branch-2.false in
-    let same2 : ◌≡◌ {A = State} (state_of c.try_step-2.new.self) (state_of start) = unmoved _ _ _ _ _ c.in_ok-try_step-2.ensures.step c.if-branch-2.false ∙ same1 in
-    let no3 : does (state_of start) (Instr (record { 0 = 0 })) ≡ None = sym (ap (λ (s : State). does s (Instr (record { 0 = 0 }))) same2) ∙ refused _ _ _ _ _ c.in_ok-try_step-3.ensures.step c.if-branch-3.false in
-    let same3 : ◌≡◌ {A = State} (state_of c.try_step-3.new.self) (state_of start) = unmoved _ _ _ _ _ c.in_ok-try_step-3.ensures.step c.if-branch-3.false ∙ same2 in
-    let done = sym (ap (λ (s : State). does s (Off AllHalted)) same3) ∙ made _ _ _ _ _ c.in_ok-try_step-4.ensures.step c.if-branch-4.true in
-    less-AllHalted (state_of start) _ done
+    let a = still (state_of c.args.self.now) _ (Intr (record { 0 = 0 })) _ _ _ refl c.in_ok-try_step.ensures.step c.if-branch.false in
+    let b = still (state_of c.args.self.now) _ (Session (record { 0 = 0 })) _ _ _ a.1 c.in_ok-try_step-2.ensures.step c.if-branch-2.false in
+    let d = still (state_of c.args.self.now) _ (Instr (record { 0 = 0 })) _ _ _ b.1 c.in_ok-try_step-3.ensures.step c.if-branch-3.false in
+    let done = then-made (state_of c.args.self.now) _ (Off AllHalted) _ _ _ d.1 c.in_ok-try_step-4.ensures.step c.if-branch-4.true in
+    less-AllHalted (state_of c.args.self.now) _ done
 
 pub returns-then-branch-5-clause-less : goal.returns-then-branch-5-clause-less
 returns-then-branch-5-clause-less c =
-    let start = c.args.self.now in
-    let no1 : does (state_of start) (Intr (record { 0 = 0 })) ≡ None = refused _ _ _ _ _ c.in_ok-try_step.ensures.step c.if-branch.false in
-    let same1 : ◌≡◌ {A = State} (state_of c.try_step.new.self) (state_of start) = unmoved _ _ _ _ _ c.in_ok-try_step.ensures.step c.if-branch.false in
-    let no2 : does (state_of start) (Session (record { 0 = 0 })) ≡ None = sym (ap (λ (s : State). does s (Session (record { 0 = 0 }))) same1) ∙ refused _ _ _ _ _ c.in_ok-try_step-2.ensures.step c.if-branch-2.false in
-    let same2 : ◌≡◌ {A = State} (state_of c.try_step-2.new.self) (state_of start) = unmoved _ _ _ _ _ c.in_ok-try_step-2.ensures.step c.if-branch-2.false ∙ same1 in
-    let no3 : does (state_of start) (Instr (record { 0 = 0 })) ≡ None = sym (ap (λ (s : State). does s (Instr (record { 0 = 0 }))) same2) ∙ refused _ _ _ _ _ c.in_ok-try_step-3.ensures.step c.if-branch-3.false in
-    let same3 : ◌≡◌ {A = State} (state_of c.try_step-3.new.self) (state_of start) = unmoved _ _ _ _ _ c.in_ok-try_step-3.ensures.step c.if-branch-3.false ∙ same2 in
-    let no4 : does (state_of start) (Off AllHalted) ≡ None = sym (ap (λ (s : State). does s (Off AllHalted)) same3) ∙ refused _ _ _ _ _ c.in_ok-try_step-4.ensures.step c.if-branch-4.false in
-    let same4 : ◌≡◌ {A = State} (state_of c.try_step-4.new.self) (state_of start) = unmoved _ _ _ _ _ c.in_ok-try_step-4.ensures.step c.if-branch-4.false ∙ same3 in
-    let done = sym (ap (λ (s : State). does s (Off StepLimit)) same4) ∙ made _ _ _ _ _ c.in_ok-try_step-5.ensures.step c.if-branch-5.true in
-    less-StepLimit (state_of start) _ done
+    let a = still (state_of c.args.self.now) _ (Intr (record { 0 = 0 })) _ _ _ refl c.in_ok-try_step.ensures.step c.if-branch.false in
+    let b = still (state_of c.args.self.now) _ (Session (record { 0 = 0 })) _ _ _ a.1 c.in_ok-try_step-2.ensures.step c.if-branch-2.false in
+    let d = still (state_of c.args.self.now) _ (Instr (record { 0 = 0 })) _ _ _ b.1 c.in_ok-try_step-3.ensures.step c.if-branch-3.false in
+    let e = still (state_of c.args.self.now) _ (Off AllHalted) _ _ _ d.1 c.in_ok-try_step-4.ensures.step c.if-branch-4.false in
+    let done = then-made (state_of c.args.self.now) _ (Off StepLimit) _ _ _ e.1 c.in_ok-try_step-5.ensures.step c.if-branch-5.true in
+    less-StepLimit (state_of c.args.self.now) _ done
 
 pub unreachable-requires : goal.unreachable-requires
 unreachable-requires c =
     let start = c.args.self.now in
-    let no1 : does (state_of start) (Intr (record { 0 = 0 })) ≡ None = refused _ _ _ _ _ c.in_ok-try_step.ensures.step c.if-branch.false in
-    let same1 : ◌≡◌ {A = State} (state_of c.try_step.new.self) (state_of start) = unmoved _ _ _ _ _ c.in_ok-try_step.ensures.step c.if-branch.false in
-    let no2 : does (state_of start) (Session (record { 0 = 0 })) ≡ None = sym (ap (λ (s : State). does s (Session (record { 0 = 0 }))) same1) ∙ refused _ _ _ _ _ c.in_ok-try_step-2.ensures.step c.if-branch-2.false in
-    let same2 : ◌≡◌ {A = State} (state_of c.try_step-2.new.self) (state_of start) = unmoved _ _ _ _ _ c.in_ok-try_step-2.ensures.step c.if-branch-2.false ∙ same1 in
-    let no3 : does (state_of start) (Instr (record { 0 = 0 })) ≡ None = sym (ap (λ (s : State). does s (Instr (record { 0 = 0 }))) same2) ∙ refused _ _ _ _ _ c.in_ok-try_step-3.ensures.step c.if-branch-3.false in
-    let same3 : ◌≡◌ {A = State} (state_of c.try_step-3.new.self) (state_of start) = unmoved _ _ _ _ _ c.in_ok-try_step-3.ensures.step c.if-branch-3.false ∙ same2 in
-    let no4 : does (state_of start) (Off AllHalted) ≡ None = sym (ap (λ (s : State). does s (Off AllHalted)) same3) ∙ refused _ _ _ _ _ c.in_ok-try_step-4.ensures.step c.if-branch-4.false in
-    let same4 : ◌≡◌ {A = State} (state_of c.try_step-4.new.self) (state_of start) = unmoved _ _ _ _ _ c.in_ok-try_step-4.ensures.step c.if-branch-4.false ∙ same3 in
-    let no5 : does (state_of start) (Off StepLimit) ≡ None = sym (ap (λ (s : State). does s (Off StepLimit)) same4) ∙ refused _ _ _ _ _ c.in_ok-try_step-5.ensures.step c.if-branch-5.false in
-    let same5 : ◌≡◌ {A = State} (state_of c.try_step-5.new.self) (state_of start) = unmoved _ _ _ _ _ c.in_ok-try_step-5.ensures.step c.if-branch-5.false ∙ same4 in
-    some_allowed (state_of start) (omega (arith, start.contexts.ok.0, c.requires.one_hart)) (alone_of start.contexts.len start.mode c.requires.one_hart start.fits) c.requires.running no1 no2 no3 no4 no5
+    let a = still (state_of c.args.self.now) _ (Intr (record { 0 = 0 })) _ _ _ refl c.in_ok-try_step.ensures.step c.if-branch.false in
+    let b = still (state_of c.args.self.now) _ (Session (record { 0 = 0 })) _ _ _ a.1 c.in_ok-try_step-2.ensures.step c.if-branch-2.false in
+    let d = still (state_of c.args.self.now) _ (Instr (record { 0 = 0 })) _ _ _ b.1 c.in_ok-try_step-3.ensures.step c.if-branch-3.false in
+    let e = still (state_of c.args.self.now) _ (Off AllHalted) _ _ _ d.1 c.in_ok-try_step-4.ensures.step c.if-branch-4.false in
+    let f = still (state_of c.args.self.now) _ (Off StepLimit) _ _ _ e.1 c.in_ok-try_step-5.ensures.step c.if-branch-5.false in
+    some_allowed (state_of start) (omega (arith, start.contexts.ok.0, c.requires.one_hart)) (alone_of start.contexts.len start.mode c.requires.one_hart start.fits) c.requires.running a.0 b.0 d.0 e.0 f.0
