@@ -1,6 +1,7 @@
 -- Cores of one origin.
 use Rattle.std.proofs.lemmas.List.{append-nil}
-use Rattle.std.proofs.Common.{◌≡◌, ℕ, Bool, true, false, List, [], ◌∷◌, ◌++◌, Some, refl, sym, ap, ◌∙◌}
+use Rattle.std.specs.Prelude.{vec_len}
+use Rattle.std.proofs.Common.{◌≡◌, ℕ, Bool, true, false, List, [], ◌∷◌, ◌++◌, Some, refl, sym, ap, ◌∙◌, arith}
 use Rattle.mach_base.specs.declared.event.Entry.{Entry}
 use Rattle.atom_mach.specs.State.{hart_count}
 use Rattle.plant_mach.specs.Machine.{PlantedMachine}
@@ -41,13 +42,17 @@ same_origin a b same = record {
 }
 
 -- a core that was lost
-pub lost_origin : (a b : Core) → hart_count (machine_of b).machine ≡ hart_count (machine_of a).machine → (machine_of b).machine.limit ≡ (machine_of a).machine.limit → entries_of b ≡ entries_of a → b.lost ≡ true → SameOrigin a b
+lost_origin : (a b : Core) → hart_count (machine_of b).machine ≡ hart_count (machine_of a).machine → (machine_of b).machine.limit ≡ (machine_of a).machine.limit → entries_of b ≡ entries_of a → b.lost ≡ true → SameOrigin a b
 lost_origin a b harts limit journal lost = record {
   harts = harts;
   limit = limit;
   journal = ([], journal ∙ sym (append-nil (entries_of a)));
   origin = λ o from. lost_from o (entries_of a) (entries_of b) (text_of a) (text_of b) (machine_of a) (machine_of b) a.lost b.lost journal lost from;
 }
+
+-- the same, by the contexts that each has
+pub lost_with : (a b : Core) → vec_len b.inner.contexts ≡ vec_len a.inner.contexts → (machine_of b).machine.limit ≡ (machine_of a).machine.limit → entries_of b ≡ entries_of a → b.lost ≡ true → SameOrigin a b
+lost_with a b harts limit journal lost = lost_origin a b (omega (arith, harts, b.inner.contexts.ok.0, a.inner.contexts.ok.0)) limit journal lost
 
 -- what a core has come to is a run of the atomic machine
 pub is_run : LegalListsAreRuns → LegalListsPrintTranscripts → (o : Origin) (c : Core) → ComesFrom o c → IsRunOf o c

@@ -1,5 +1,5 @@
 -- The core from the outside: its machine, journal and transcript, and the origin that they come from.
-use Rattle.std.specs.Prelude.{◌≡◌, ℕ, ◌-◌, ◌++◌, vec_len, vec_capacity, false, List, [], ◌∷◌, Some}
+use Rattle.std.specs.Prelude.{◌≡◌, ℕ, ◌+◌, ◌-◌, ◌++◌, vec_len, vec_capacity, false, List, [], ◌∷◌, Some}
 use Rattle.mach_base.specs.declared.event.Entry.{Entry}
 use Rattle.mach_base.specs.declared.event.Ending.{Ending}
 use Rattle.atom_mach.specs.State.{hart_count}
@@ -29,6 +29,10 @@ journal_room c = c.journal.spare
 
 abbrev pub text_room : Core → ℕ
 text_room c = vec_capacity c.transcript - vec_len c.transcript
+
+-- how many steps there may be so far: those up to the limit, and one for each line that was read
+abbrev pub most_steps : PlantedMachine → ℕ
+most_steps p = p.machine.limit + p.machine.lines_read
 
 -- the core comes from this origin
 abbrev pub ComesFrom : Origin → Core → Type 0

@@ -10,12 +10,10 @@ use mach_base::{Hart, OutOfMemory, Reason, all_but, push_bytes, push_newline};
 impl Core {
     ghost use Rattle.std.specs.Prelude.{◌≡◌, ◌+◌, ◌<◌, ◌++◌, [], false, IfOk, IfSome, OnOk, drop, length, slice_index_or, vec_len};
     ghost use Rattle.mach_base.specs.Texts.{newline};
-    ghost use Rattle.mach_base.specs.Masks.{has_bit, all_but};
-    ghost use Rattle.kdb_cmd.specs.Line.{line_said};
-    ghost use Rattle.atom_mach.specs.State.{hart_count};
+    ghost use Rattle.mach_base.specs.Masks.{has_bit};
     ghost use Rattle.atom_mach.specs.Modes.{IsSitting, Fits, IsGathered, ReadsWith};
     ghost use Rattle.atom_mach.specs.Session.{with_read, prompt_text, mode_of_go, mode_left, with_seen};
-    ghost use Rattle.atom_mach.specs.Core.{machine_of, next_line, next_effect};
+    ghost use Rattle.atom_mach.specs.Core.{machine_of, next_line, next_effect, next_said};
 
     /// Appends the prompt and the line that is read next.
     fn push_echo(&self, out: &mut Vec<u8>) -> Result<(), OutOfMemory>
@@ -34,7 +32,7 @@ impl Core {
         requires sitting { IsSitting (vec_len self.old.contexts) master late }
         requires reads { ReadsWith self.old.mode late }
         requires gathered { has_bit late self.old.kdb.current ≡ false }
-        ensures said { IfOk result (λ said. line_said (all_but (hart_count (machine_of self.old)) late) master.0 (next_line self.old) (machine_of self.old).seen ≡ record { output = said.text; state = (machine_of self.new).seen; outcome = said.outcome }) }
+        ensures said { IfOk result (λ said. next_said self.old master late ≡ record { output = said.text; state = (machine_of self.new).seen; outcome = said.outcome }) }
         ensures machine { OnOk result (machine_of self.new ≡ with_seen (with_read (machine_of self.old) (drop (self.old.read + 1) self.old.script)) (machine_of self.new).seen) }
         ensures gathered { OnOk result (has_bit late self.new.kdb.current ≡ false) }
         ensures read { OnOk result (self.new.read ≡ self.old.read + 1) }

@@ -16,7 +16,7 @@ impl Core {
     ghost use Rattle.plant_mach.specs.Entries.{raw_fetched, is_ebreak, faults, step_address, has_line};
     ghost use Rattle.plant_mach.specs.Order.{IsSeated};
     ghost use Rattle.bus_core.specs.Inner.{is_legal};
-    ghost use Rattle.bus_core.specs.Core.{machine_of};
+    ghost use Rattle.bus_core.specs.Core.{machine_of, most_steps};
 
     /// Whether the entry is legal.
     pub fn is_legal(&self, entry: Entry) -> bool
@@ -39,8 +39,8 @@ impl Core {
         ensures few_harts { hart_count (machine_of self.now).machine ≤ MOST_HARTS }
         ensures lines { (machine_of self.now).machine.lines_read + length (machine_of self.now).machine.unread ≤ MOST_LINES }
         ensures limit { (machine_of self.now).machine.limit ≤ MOST_STEPS }
-        ensures steps { (machine_of self.now).machine.steps ≤ (machine_of self.now).machine.limit + (machine_of self.now).machine.lines_read }
-        ensures pass { in_session (λ s. is_pass s.stage) (machine_of self.now).session ≡ true → (machine_of self.now).machine.steps < (machine_of self.now).machine.limit + (machine_of self.now).machine.lines_read }
+        ensures steps { (machine_of self.now).machine.steps ≤ most_steps (machine_of self.now) }
+        ensures pass { in_session (λ s. is_pass s.stage) (machine_of self.now).session ≡ true → (machine_of self.now).machine.steps < most_steps (machine_of self.now) }
         ensures seated { IsSeated (hart_count (machine_of self.now).machine) (machine_of self.now).session }
     {
         let _inner = &self.inner;
@@ -163,7 +163,7 @@ impl Core {
     /// Bytes of text that there may be besides those of lines after the next line: one for each step that is left, and 240
     /// for each banner.
     pub fn text_after_line(&self) -> usize
-        ensures { result ≡ (machine_of self.now).machine.limit + (machine_of self.now).machine.lines_read + 1 - (machine_of self.now).machine.steps + 240 * (length (machine_of self.now).machine.unread + 2) }
+        ensures { result ≡ most_steps (machine_of self.now) + 1 - (machine_of self.now).machine.steps + 240 * (length (machine_of self.now).machine.unread + 2) }
     {
         let inner = &self.inner;
         let steps = inner.limit as usize + inner.read + 1 - inner.steps as usize;

@@ -42,17 +42,4 @@ returns-clause-made c =
     }
 
 pub returns-clause-origin : goal.returns-clause-origin
-returns-clause-origin c =
-    let core = c.args.self.now in
-    let p = machine_of core in
-    let same : c.reserve.new.self.items ≡ core.transcript.items = search rules in
-    let text : c.make_quiet.new.out.items ≡ core.transcript.items ++ (effect p c.args.entry).text = c.make_quiet.ensures.done.text ∙ ap (λ t. t ++ (effect p c.args.entry).text) same in
-    applied_origin c.lists_join.ensures c.entries_keep.ensures core _ c.args.entry (record {
-      made = effect p c.args.entry;
-      legal = makes_effect p c.args.entry c.requires.legal;
-      machine = c.make_quiet.ensures.done.next;
-      journal = c.in_ok-try_push.ensures.ok;
-      text = text;
-      before = c.requires.here;
-      after = c.requires.here;
-    })
+returns-clause-origin c = applied_origin c.lists_join.ensures c.entries_keep.ensures c.args.self.now _ c.args.entry (returns-clause-made c)

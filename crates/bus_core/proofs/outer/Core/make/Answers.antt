@@ -26,14 +26,4 @@ returns-clause-made c =
     }
 
 pub returns-clause-origin : goal.returns-clause-origin
-returns-clause-origin c =
-    let p = machine_of c.args.self.now in
-    applied_origin c.lists_join.ensures c.entries_keep.ensures c.args.self.now _ c.args.entry (record {
-      made = effect p c.args.entry;
-      legal = makes_effect p c.args.entry c.requires.legal;
-      machine = c.make_quiet.ensures.done.next;
-      journal = c.push.ensures.entries;
-      text = c.make_quiet.ensures.done.text;
-      before = c.requires.here;
-      after = c.requires.here;
-    })
+returns-clause-origin c = applied_origin c.lists_join.ensures c.entries_keep.ensures c.args.self.now _ c.args.entry (returns-clause-made c)

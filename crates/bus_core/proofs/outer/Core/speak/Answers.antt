@@ -4,7 +4,7 @@ use Rattle.plant_mach.specs.Entries.{effect}
 use Rattle.bus_core.specs.Inner.{machine_of as inner_machine}
 use Rattle.bus_core.specs.Core.{machine_of, entries_of, text_of, Applied}
 use Rattle.bus_core.proofs.Lists.{makes_effect, one_more, lost_from}
-use Rattle.bus_core.proofs.Origins.{applied_origin, lost_origin}
+use Rattle.bus_core.proofs.Origins.{applied_origin, lost_with}
 use Rattle.bus_core.proofs.outer.Core.speak.Goals as goal
 
 pub invariant_of-self : goal.invariant_of-self
@@ -13,11 +13,7 @@ invariant_of-self c =
     record { made = ∥∥₁_map core.made (λ h. (h.0, lost_from h.0 (entries_of core) (entries_of core) (text_of core) c.make_spoken.new.out.items (machine_of core) (inner_machine c.make_spoken.new.self) core.lost true refl refl h.1)) }
 
 pub returns-in_err-make_spoken-clause-origin : goal.returns-in_err-make_spoken-clause-origin
-returns-in_err-make_spoken-clause-origin c =
-    let core = c.args.self.now in
-    let new = c.make_spoken.new.self in
-    let count : length new.contexts.items ≡ length core.inner.contexts.items = omega (arith, c.make_spoken.ensures.harts, new.contexts.ok.0, core.inner.contexts.ok.0) in
-    lost_origin core _ count c.make_spoken.ensures.limit refl refl
+returns-in_err-make_spoken-clause-origin c = lost_with c.args.self.now _ c.make_spoken.ensures.harts c.make_spoken.ensures.limit refl refl
 
 pub invariant_of-self-in-Break-branch-2 : goal.invariant_of-self-in-Break-branch-2
 invariant_of-self-in-Break-branch-2 c =
@@ -25,11 +21,7 @@ invariant_of-self-in-Break-branch-2 c =
     record { made = ∥∥₁_map core.made (λ h. (h.0, lost_from h.0 (entries_of core) (entries_of core) (text_of core) c.reserve.new.self.items (machine_of core) (inner_machine c.make_spoken.new.self) core.lost true refl refl h.1)) }
 
 pub returns-in_err-reserve-clause-origin : goal.returns-in_err-reserve-clause-origin
-returns-in_err-reserve-clause-origin c =
-    let core = c.args.self.now in
-    let new = c.make_spoken.new.self in
-    let count : length new.contexts.items ≡ length core.inner.contexts.items = omega (arith, c.make_spoken.ensures.harts, new.contexts.ok.0, core.inner.contexts.ok.0) in
-    lost_origin core _ count c.make_spoken.ensures.limit refl refl
+returns-in_err-reserve-clause-origin c = lost_with c.args.self.now _ c.make_spoken.ensures.harts c.make_spoken.ensures.limit refl refl
 
 pub invariant_of-self-2 : goal.invariant_of-self-2
 invariant_of-self-2 c =
@@ -53,15 +45,4 @@ returns-clause-made c =
     }
 
 pub returns-clause-origin : goal.returns-clause-origin
-returns-clause-origin c =
-    let p = machine_of c.args.self.now in
-    let done = c.in_ok-make_spoken.ensures.done in
-    applied_origin c.lists_join.ensures c.entries_keep.ensures c.args.self.now _ c.args.entry (record {
-      made = effect p c.args.entry;
-      legal = makes_effect p c.args.entry c.requires.legal;
-      machine = done.next;
-      journal = c.push.ensures.entries;
-      text = c.in_ok-reserve.ensures.items ∙ done.text;
-      before = c.requires.here;
-      after = refl;
-    })
+returns-clause-origin c = applied_origin c.lists_join.ensures c.entries_keep.ensures c.args.self.now _ c.args.entry (returns-clause-made c)
