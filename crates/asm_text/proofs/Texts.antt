@@ -232,47 +232,45 @@ lines_in lines es a = lines_to_image a.header a.rest es (subst (λ (xs : List (L
 is_there : (lines : List (List ℕ)) (es : List Entry) (a : AreLines lines es) → source_of_lines lines ≡ as_source (image_of_lines (whole_image_lines a.rest))
 is_there lines es a = ap source_of_lines a.split ∙ with_header a.header a.rest a.is_header
 
-segments_there : (text : List ℕ) (size : ℕ) → source_of text ≡ Err (TooLarge Segments size) → (length text ≤ SOURCE_BYTES) × HaveManySegments (lines_of text) size
-segments_there text size is =
+-- what images say of a count over its limit
+abbrev ImageCounts : What → (List (List ℕ) → ℕ → Type 0) → Type 0
+ImageCounts what ImageHas =
+    (ls : List (List ℕ)) → AreClear ls → (size : ℕ) → (image_of_lines (whole_image_lines ls) ≡ Err (image_faults.TooLarge what size)) ↔ ImageHas (whole_image_lines ls) size
+
+count_there : (what : What) (Has ImageHas : List (List ℕ) → ℕ → Type 0) → (SourceBytes ≡ what → ⊥) → ImageCounts what ImageHas
+    → ((first : List ℕ) (ls : List (List ℕ)) (size : ℕ) → is_header (words_of first) ≡ true → ImageHas (whole_image_lines ls) size → Has (first ∷ ls) size)
+    → (text : List ℕ) (size : ℕ) → source_of text ≡ Err (TooLarge what size) → (length text ≤ SOURCE_BYTES) × Has (lines_of text) size
+count_there what Has ImageHas other law from text size is =
     elim (cases_Bool (nat_lt SOURCE_BYTES (length text))) [
-      | inl long ↦ let large = large_same SourceBytes Segments (length text) size (sym (source_long text (ltb-true SOURCE_BYTES (length text) long)) ∙ is) in let other = large.0 in absurd (cc)
+      | inl long ↦ absurd (other (large_same SourceBytes what (length text) size (sym (source_long text (ltb-true SOURCE_BYTES (length text) long)) ∙ is)).0)
       | inr short ↦
           let few = ltb-false SOURCE_BYTES (length text) short in
-          let i = inside_large (lines_of text) Segments size (sym (source_short text few) ∙ is) in
-          let m = (segments_law i.others (rest_is_clear (lines_of text) _ (lines_of-clear text) i) size).0 i.is in
-          (few, subst (λ (xs : List (List ℕ)). HaveManySegments xs size) (sym i.split) (many_from i.first i.others size i.header m))
+          let i = inside_large (lines_of text) what size (sym (source_short text few) ∙ is) in
+          let has = (law i.others (rest_is_clear (lines_of text) _ (lines_of-clear text) i) size).0 i.is in
+          (few, subst (λ (xs : List (List ℕ)). Has xs size) (sym i.split) (from i.first i.others size i.header has))
     ]
 
-memory_there : (text : List ℕ) (size : ℕ) → source_of text ≡ Err (TooLarge Memory size) → (length text ≤ SOURCE_BYTES) × HaveMuchMemory (lines_of text) size
-memory_there text size is =
-    elim (cases_Bool (nat_lt SOURCE_BYTES (length text))) [
-      | inl long ↦ let large = large_same SourceBytes Memory (length text) size (sym (source_long text (ltb-true SOURCE_BYTES (length text) long)) ∙ is) in let other = large.0 in absurd (cc)
-      | inr short ↦
-          let few = ltb-false SOURCE_BYTES (length text) short in
-          let i = inside_large (lines_of text) Memory size (sym (source_short text few) ∙ is) in
-          let m = (memory_law i.others (rest_is_clear (lines_of text) _ (lines_of-clear text) i) size).0 i.is in
-          (few, subst (λ (xs : List (List ℕ)). HaveMuchMemory xs size) (sym i.split) (much_from i.first i.others size i.header m))
-    ]
+count_back : (what : What) (ImageHas : List (List ℕ) → ℕ → Type 0) → ImageCounts what ImageHas → (text : List ℕ) (size : ℕ) (es : List Entry) → length text ≤ SOURCE_BYTES
+    → (a : AreLines (lines_of text) es) → ImageHas (whole_image_lines a.rest) size → source_of text ≡ Err (TooLarge what size)
+count_back what ImageHas law text size es few a has =
+    let clear : AreClear a.rest = (subst AreClear a.split (lines_of-clear text)).1 in
+    source_short text few ∙ is_there (lines_of text) es a ∙ ap as_source ((law a.rest clear size).1 has)
 
 segments_back : (text : List ℕ) (size : ℕ) → (length text ≤ SOURCE_BYTES) × HaveManySegments (lines_of text) size → source_of text ≡ Err (TooLarge Segments size)
 segments_back text size both =
     let h = both.1 in
-    let a = h.lines_are in
-    let clear : AreClear a.rest = (subst AreClear a.split (lines_of-clear text)).1 in
-    let m : ImageHasManySegments (whole_image_lines a.rest) size = record { entries = h.entries; lines_are = lines_in (lines_of text) h.entries a; text = h.text; count = h.count; many = h.many } in
-    source_short text both.0 ∙ is_there (lines_of text) h.entries a ∙ ap as_source ((segments_law a.rest clear size).1 m)
+    let m : ImageHasManySegments (whole_image_lines h.lines_are.rest) size = record { entries = h.entries; lines_are = lines_in (lines_of text) h.entries h.lines_are; text = h.text; count = h.count; many = h.many } in
+    count_back Segments ImageHasManySegments segments_law text size h.entries both.0 h.lines_are m
 
 memory_back : (text : List ℕ) (size : ℕ) → (length text ≤ SOURCE_BYTES) × HaveMuchMemory (lines_of text) size → source_of text ≡ Err (TooLarge Memory size)
 memory_back text size both =
     let h = both.1 in
-    let a = h.lines_are in
-    let clear : AreClear a.rest = (subst AreClear a.split (lines_of-clear text)).1 in
-    let m : ImageHasMuchMemory (whole_image_lines a.rest) size = record { entries = h.entries; lines_are = lines_in (lines_of text) h.entries a; text = h.text; few = h.few; count = h.count; large = h.large } in
-    source_short text both.0 ∙ is_there (lines_of text) h.entries a ∙ ap as_source ((memory_law a.rest clear size).1 m)
+    let m : ImageHasMuchMemory (whole_image_lines h.lines_are.rest) size = record { entries = h.entries; lines_are = lines_in (lines_of text) h.entries h.lines_are; text = h.text; few = h.few; count = h.count; large = h.large } in
+    count_back Memory ImageHasMuchMemory memory_law text size h.entries both.0 h.lines_are m
 
 pub counts_its_memory : CountsItsMemory
 counts_its_memory text size = (
   (λ is. bytes_there text size is, λ both. source_long text both.1 ∙ ap (λ (n : ℕ). Err (TooLarge SourceBytes n)) (sym both.0)),
-  (λ is. segments_there text size is, λ both. segments_back text size both),
-  (λ is. memory_there text size is, λ both. memory_back text size both),
+  (λ is. count_there Segments HaveManySegments ImageHasManySegments (λ (e : SourceBytes ≡ Segments). absurd (cc)) segments_law many_from text size is, λ both. segments_back text size both),
+  (λ is. count_there Memory HaveMuchMemory ImageHasMuchMemory (λ (e : SourceBytes ≡ Memory). absurd (cc)) memory_law much_from text size is, λ both. memory_back text size both),
 )

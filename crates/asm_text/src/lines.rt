@@ -42,6 +42,7 @@ fn push_lines(out: &mut Vec<u8>, labels: &Labels, text: &[u8]) -> Result<(), Out
 }
 
 /// Appends the line that stands for a line, with its end.
+#[tactic(auto, unfolding(crate::specs::Reading::image_line))]
 fn push_line(
     out: &mut Vec<u8>,
     labels: &Labels,
@@ -50,21 +51,6 @@ fn push_line(
     line: &[u8],
 ) -> Result<(), OutOfMemory>
     ensures { OnOk result (out.new.items ≡ out.old.items ++ (image_line (table_labels labels.now) number place line.now ++ (13 ∷ 10 ∷ []))) }
-{
-    push_image_line(out, labels, number, place, line)?;
-    push_bytes(out, b"\r\n")?;
-    Ok(())
-}
-
-#[tactic(auto, unfolding(crate::specs::Reading::image_line))]
-fn push_image_line(
-    out: &mut Vec<u8>,
-    labels: &Labels,
-    number: u64,
-    place: Option<u64>,
-    line: &[u8],
-) -> Result<(), OutOfMemory>
-    ensures { OnOk result (out.new.items ≡ out.old.items ++ image_line (table_labels labels.now) number place line.now) }
 {
     match kind_of(line) {
         LineKind::Label => {
@@ -78,6 +64,7 @@ fn push_image_line(
         }
         _ => push_bytes(out, line)?,
     }
+    push_bytes(out, b"\r\n")?;
     Ok(())
 }
 

@@ -4,9 +4,8 @@ use Rattle.std.proofs.Math.Nat.{pow-suc}
 use Rattle.std.proofs.lemmas.Bool.{ne_eqb, lt-ltb, le-leb, cases_lt}
 use Rattle.std.proofs.lemmas.Str.{digit_value-digit_char}
 use Rattle.std.proofs.lemmas.Int.Digits.{digits_value_push}
-use Rattle.std.proofs.lemmas.Iterator.Adapters.{position_from-zero}
-use Rattle.std.specs.Char.{is_digit, digit_char, digit_value}
-use Rattle.std.specs.List.{AllByRecursion, position_from}
+use Rattle.std.specs.Char.{digit_char, digit_value}
+use Rattle.std.specs.List.{AllByRecursion}
 use Rattle.std.specs.Str.Parse.{AllDigits, digits_value}
 use Rattle.std.specs.Prelude.{nat_le}
 use Rattle.std.specs.Result.{result_ok}
@@ -15,6 +14,7 @@ use Rattle.mach_base.specs.Number.{has_prefix, first_bad, number_of, hex_text}
 use Rattle.mach_base.proofs.Cuts.{and_no}
 use Rattle.sym_map.specs.Reading.{is_comment, address_of}
 use Rattle.sym_map.proofs.Digits.{length-hex_text}
+use Rattle.img_text.proofs.Spelled.{first_bad-digits}
 
 all_digits_push : (ds : List ℕ) (d : ℕ) → AllDigits 16 ds → digit_value d < 16 → AllDigits 16 (ds ++ d ∷ [])
 all_digits_push [] d all last = (last, tt)
@@ -39,15 +39,6 @@ hex_value (suc n) v fits =
     fewer : (p : ℕ) → v < p * 16 → v / 16 < p
     fewer p h = omega (arith, h)
 
-none_bad : (k : ℕ) (ds : List ℕ) → AllDigits 16 ds → position_from (λ c. not (is_digit c 16)) k ds ≡ None
-none_bad k [] h = refl
-none_bad k (d ∷ ds) h =
-    let digit : nat_lt (digit_value d) 16 ≡ true = lt-ltb (digit_value d) 16 h.0 in
-    rw digit (none_bad (k + 1) ds h.1)
-
-first_bad-none : (ds : List ℕ) → AllDigits 16 ds → first_bad 16 ds ≡ None
-first_bad-none ds h = position_from-zero (λ c. not (is_digit c 16)) ds ∙ none_bad 0 ds h
-
 not_x : (d : ℕ) → digit_value d < 16 → (d ≡ 120 → ⊥) × (d ≡ 88 → ⊥)
 not_x d small = (λ (e : d ≡ 120). large_120 (subst (λ (c : ℕ). digit_value c < 16) e small), λ (e : d ≡ 88). large_88 (subst (λ (c : ℕ). digit_value c < 16) e small))
   where
@@ -67,7 +58,7 @@ no_prefix (d ∷ e ∷ ds) h =
 number_of_digits : (ds : List ℕ) (v : ℕ) → 0 < length ds → AllDigits 16 ds → digits_value 16 ds ≡ v → v < 2 ^ 64 → number_of 16 ds ≡ Ok v
 number_of_digits [] v some digits value fits = absurd (omega arith)
 number_of_digits (d ∷ ds) v some digits value fits =
-    rw (no_prefix (d ∷ ds) digits, first_bad-none (d ∷ ds) digits, value, lt-ltb v (2 ^ 64) fits) refl
+    rw (no_prefix (d ∷ ds) digits, first_bad-digits 16 (d ∷ ds) digits, value, lt-ltb v (2 ^ 64) fits) refl
 
 address_of_digits : (ds : List ℕ) (v : ℕ) → 0 < length ds → length ds ≤ 16 → AllDigits 16 ds → digits_value 16 ds ≡ v → v < 2 ^ 64 → address_of ds ≡ Some v
 address_of_digits ds v some short digits value fits =

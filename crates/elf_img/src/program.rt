@@ -30,13 +30,10 @@ pub fn program_headers(alloc: Global, file: &[u8]) -> Result<Vec<ProgramHeader>,
     requires whole { has_programs file.now ≡ true }
     ensures { IfOk result (λ headers. headers.items ≡ program_headers file.now) }
 {
-    let count = program_count(file);
     let offset = program_offset(file);
-    let mut headers = Vec::with_capacity(alloc, count as usize)?;
-    for i in 0..count {
-        let at = offset + 56 * i;
-        headers.push(program_header_at(file, at as usize))?;
-    }
+    let headers = (0..program_count(file))
+        .map(|i| program_header_at(file, (offset + 56 * i) as usize))
+        .collect(alloc)?;
     Ok(headers)
 }
 

@@ -26,13 +26,10 @@ pub fn section_headers(alloc: Global, file: &[u8]) -> Result<Vec<SectionHeader>,
     requires whole { has_sections file.now ≡ true }
     ensures { IfOk result (λ headers. headers.items ≡ section_headers file.now) }
 {
-    let count = section_count(file);
     let offset = section_offset(file);
-    let mut headers = Vec::with_capacity(alloc, count as usize)?;
-    for i in 0..count {
-        let at = offset + 64 * i;
-        headers.push(section_header_at(file, at as usize))?;
-    }
+    let headers = (0..section_count(file))
+        .map(|i| section_header_at(file, (offset + 64 * i) as usize))
+        .collect(alloc)?;
     Ok(headers)
 }
 

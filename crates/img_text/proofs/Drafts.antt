@@ -174,114 +174,70 @@ pub record Refused (d : Draft) (es : List Entry) (e : Entry) : Type 0 where
   pub is : applied d e.0 e.1 ≡ Err why
   pub refused : refusal_after es e ≡ Some why
 
--- the parts are put back into the draft
-abbrev put_back : Draft → Result (List Part) Why → Result Draft Why
-put_back d r = r >>= λ parts. Ok (record d { parts = parts })
+-- A directive that puts a part of the draft anew: it may follow the others, or it is refused.
+follows_or_refused : (A : Type 0) (d : Draft) (es : List Entry) (e : Entry) (made : Result A Why) (x : A) (put_back : A → Draft) → applied d e.0 e.1 ≡ (made >>= λ (y : A). Ok (put_back y))
+    → made ≡ or_refused (refusal_after es e) x → (refusal_after es e ≡ None → IsDraft (put_back x) (es ++ e ∷ [])) → Follows d es e ⊎ Refused d es e
+follows_or_refused A d es e made x put_back does is draft = by (refusal_after es e) refl
+  where
+    by : (o : Option Why) → refusal_after es e ≡ o → Follows d es e ⊎ Refused d es e
+    by None free =
+        let made_is : made ≡ Ok x = is ∙ ap (λ (o : Option Why). or_refused o x) free in
+        inl (record { next = put_back x; is = does ∙ ap (λ (r : Result A Why). r >>= λ (y : A). Ok (put_back y)) made_is; draft = draft free; allowed = free })
+    by (Some why) taken =
+        let made_is : made ≡ Err why = is ∙ ap (λ (o : Option Why). or_refused o x) taken in
+        inr (record { why = why; is = does ∙ ap (λ (r : Result A Why). r >>= λ (y : A). Ok (put_back y)) made_is; refused = taken })
 
-abbrev put_pcs : Draft → Result (List (Option ℕ)) Why → Result Draft Why
-put_pcs d r = r >>= λ pcs. Ok (record d { pcs = pcs })
-
-abbrev put_sps : Draft → Result (List (Option ℕ)) Why → Result Draft Why
-put_sps d r = r >>= λ sps. Ok (record d { sps = sps })
-
-by_begin : (d : Draft) (es : List Entry) (kind : Kind) (ns : List ℕ) → IsDraft d es → (o : Option Why) → refusal_after es (Begin kind, ns) ≡ o → Follows d es (Begin kind, ns) ⊎ Refused d es (Begin kind, ns)
+by_begin : (d : Draft) (es : List Entry) (kind : Kind) (ns : List ℕ) → IsDraft d es → Follows d es (Begin kind, ns) ⊎ Refused d es (Begin kind, ns)
 unfolding applied
-by_begin d es kind ns is None free =
+by_begin d es kind ns is =
     let s = segment_of kind ns in
     let p : Part = opened s in
     let more : parts_in (es ++ (Begin kind, ns) ∷ []) ≡ parts_in es ++ p ∷ [] = parts_in-none es ((Begin kind, ns) ∷ []) refl in
     let turned : p ∷ reverse (parts_in es) ≡ reverse (parts_in (es ++ (Begin kind, ns) ∷ [])) = sym (reverse-end (parts_in es) p) ∙ ap (λ (ps : List Part). reverse ps) (sym more) in
-    inl (record {
-      next = record d { parts = p ∷ reverse (parts_in es) };
-      is = ap (λ (ps : List Part). put_back d (begin s ps)) is.parts ∙ ap (put_back d) (begin-is s (parts_in es)) ∙ ap (λ (o : Option Why). put_back d (or_refused o (p ∷ reverse (parts_in es)))) free;
-      draft = with_parts d es (Begin kind, ns) (p ∷ reverse (parts_in es)) is turned refl refl;
-      allowed = free;
-    })
-by_begin d es kind ns is (Some why) taken =
-    let s = segment_of kind ns in
-    let p : Part = opened s in
-    inr (record {
-      why = why;
-      is = ap (λ (ps : List Part). put_back d (begin s ps)) is.parts ∙ ap (put_back d) (begin-is s (parts_in es)) ∙ ap (λ (o : Option Why). put_back d (or_refused o (p ∷ reverse (parts_in es)))) taken;
-      refused = taken;
-    })
+    follows_or_refused (List Part) d es (Begin kind, ns) (begin s d.parts) (p ∷ reverse (parts_in es)) (λ ps. record d { parts = ps }) refl
+    (ap (begin s) is.parts ∙ begin-is s (parts_in es)) (λ free. with_parts d es (Begin kind, ns) (p ∷ reverse (parts_in es)) is turned refl refl)
 
-by_put : (d : Draft) (es : List Entry) (width : Width) (ns : List ℕ) → IsDraft d es → (o : Option Why) → refusal_after es (Put width, ns) ≡ o → Follows d es (Put width, ns) ⊎ Refused d es (Put width, ns)
+by_put : (d : Draft) (es : List Entry) (width : Width) (ns : List ℕ) → IsDraft d es → Follows d es (Put width, ns) ⊎ Refused d es (Put width, ns)
 unfolding applied
-by_put d es width ns is None free =
+by_put d es width ns is =
     let ps = reverse (with_values (bytes_of width ns) (parts_in es)) in
     let values : bytes_of width ns ++ [] ≡ bytes_of width ns = append-nil (bytes_of width ns) in
     let more : parts_in (es ++ (Put width, ns) ∷ []) ≡ with_values (bytes_of width ns) (parts_in es) =
     parts_in-append es ((Put width, ns) ∷ []) ∙ append-nil (with_values (bytes_of width ns ++ []) (parts_in es)) ∙ ap (λ (bs : List ℕ). with_values bs (parts_in es)) values in
-    inl (record {
-      next = record d { parts = ps };
-      is = ap (λ (qs : List Part). put_back d (put width ns qs)) is.parts ∙ ap (put_back d) (put-is width ns (parts_in es)) ∙ ap (λ (o : Option Why). put_back d (or_refused o ps)) free;
-      draft = with_parts d es (Put width, ns) ps is (ap (λ (qs : List Part). reverse qs) (sym more)) refl refl;
-      allowed = free;
-    })
-by_put d es width ns is (Some why) taken =
-    let ps = reverse (with_values (bytes_of width ns) (parts_in es)) in
-    inr (record {
-      why = why;
-      is = ap (λ (qs : List Part). put_back d (put width ns qs)) is.parts ∙ ap (put_back d) (put-is width ns (parts_in es)) ∙ ap (λ (o : Option Why). put_back d (or_refused o ps)) taken;
-      refused = taken;
+    follows_or_refused (List Part) d es (Put width, ns) (put width ns d.parts) ps (λ qs. record d { parts = qs }) refl
+    (ap (put width ns) is.parts ∙ put-is width ns (parts_in es)) (λ free. with_parts d es (Put width, ns) ps is (ap (λ (qs : List Part). reverse qs) (sym more)) refl refl)
+
+by_pc : (d : Draft) (es : List Entry) (ns : List ℕ) → IsDraft d es → Follows d es (Pc, ns) ⊎ Refused d es (Pc, ns)
+unfolding applied
+by_pc d es ns is =
+    let h = slice_index ns 0 in
+    let a = slice_index ns 1 in
+    follows_or_refused (List (Option ℕ)) d es (Pc, ns) (start h a d.pcs) (slice_set d.pcs h (Some a)) (λ pcs. record d { pcs = pcs }) refl
+    (start-is d.pcs (pcs_in es) h a (is.pcs h)) (λ free. record {
+      parts = is.parts ∙ ap (λ (ps : List Part). reverse ps) (sym (same_parts es (Pc, ns) refl refl));
+      pcs = more_starts d.pcs (pcs_in es) (pcs_in (es ++ (Pc, ns) ∷ [])) h a is.many_pcs is.pcs free (pcs_in-append es ((Pc, ns) ∷ []));
+      sps = λ q. is.sps q ∙ ap (λ (ss : List (ℕ × ℕ)). start_in ss q) (sym (same_sps es (Pc, ns) refl));
+      many_pcs = length-set d.pcs h (Some a) ∙ is.many_pcs;
+      many_sps = is.many_sps;
     })
 
-by_pc : (d : Draft) (es : List Entry) (ns : List ℕ) → IsDraft d es → (o : Option Why) → refusal_after es (Pc, ns) ≡ o → Follows d es (Pc, ns) ⊎ Refused d es (Pc, ns)
+by_sp : (d : Draft) (es : List Entry) (ns : List ℕ) → IsDraft d es → Follows d es (Sp, ns) ⊎ Refused d es (Sp, ns)
 unfolding applied
-by_pc d es ns is None free =
+by_sp d es ns is =
     let h = slice_index ns 0 in
     let a = slice_index ns 1 in
-    inl (record {
-      next = record d { pcs = slice_set d.pcs h (Some a) };
-      is = ap (put_pcs d) (start-is d.pcs (pcs_in es) h a (is.pcs h)) ∙ ap (λ (o : Option Why). put_pcs d (or_refused o (slice_set d.pcs h (Some a)))) free;
-      draft = record {
-        parts = is.parts ∙ ap (λ (ps : List Part). reverse ps) (sym (same_parts es (Pc, ns) refl refl));
-        pcs = more_starts d.pcs (pcs_in es) (pcs_in (es ++ (Pc, ns) ∷ [])) h a is.many_pcs is.pcs free (pcs_in-append es ((Pc, ns) ∷ []));
-        sps = λ q. is.sps q ∙ ap (λ (ss : List (ℕ × ℕ)). start_in ss q) (sym (same_sps es (Pc, ns) refl));
-        many_pcs = length-set d.pcs h (Some a) ∙ is.many_pcs;
-        many_sps = is.many_sps;
-      };
-      allowed = free;
-    })
-by_pc d es ns is (Some why) taken =
-    let h = slice_index ns 0 in
-    let a = slice_index ns 1 in
-    inr (record {
-      why = why;
-      is = ap (put_pcs d) (start-is d.pcs (pcs_in es) h a (is.pcs h)) ∙ ap (λ (o : Option Why). put_pcs d (or_refused o (slice_set d.pcs h (Some a)))) taken;
-      refused = taken;
-    })
-
-by_sp : (d : Draft) (es : List Entry) (ns : List ℕ) → IsDraft d es → (o : Option Why) → refusal_after es (Sp, ns) ≡ o → Follows d es (Sp, ns) ⊎ Refused d es (Sp, ns)
-unfolding applied
-by_sp d es ns is None free =
-    let h = slice_index ns 0 in
-    let a = slice_index ns 1 in
-    inl (record {
-      next = record d { sps = slice_set d.sps h (Some a) };
-      is = ap (put_sps d) (start-is d.sps (sps_in es) h a (is.sps h)) ∙ ap (λ (o : Option Why). put_sps d (or_refused o (slice_set d.sps h (Some a)))) free;
-      draft = record {
-        parts = is.parts ∙ ap (λ (ps : List Part). reverse ps) (sym (same_parts es (Sp, ns) refl refl));
-        pcs = λ q. is.pcs q ∙ ap (λ (ss : List (ℕ × ℕ)). start_in ss q) (sym (same_pcs es (Sp, ns) refl));
-        sps = more_starts d.sps (sps_in es) (sps_in (es ++ (Sp, ns) ∷ [])) h a is.many_sps is.sps free (sps_in-append es ((Sp, ns) ∷ []));
-        many_pcs = is.many_pcs;
-        many_sps = length-set d.sps h (Some a) ∙ is.many_sps;
-      };
-      allowed = free;
-    })
-by_sp d es ns is (Some why) taken =
-    let h = slice_index ns 0 in
-    let a = slice_index ns 1 in
-    inr (record {
-      why = why;
-      is = ap (put_sps d) (start-is d.sps (sps_in es) h a (is.sps h)) ∙ ap (λ (o : Option Why). put_sps d (or_refused o (slice_set d.sps h (Some a)))) taken;
-      refused = taken;
+    follows_or_refused (List (Option ℕ)) d es (Sp, ns) (start h a d.sps) (slice_set d.sps h (Some a)) (λ sps. record d { sps = sps }) refl
+    (start-is d.sps (sps_in es) h a (is.sps h)) (λ free. record {
+      parts = is.parts ∙ ap (λ (ps : List Part). reverse ps) (sym (same_parts es (Sp, ns) refl refl));
+      pcs = λ q. is.pcs q ∙ ap (λ (ss : List (ℕ × ℕ)). start_in ss q) (sym (same_pcs es (Sp, ns) refl));
+      sps = more_starts d.sps (sps_in es) (sps_in (es ++ (Sp, ns) ∷ [])) h a is.many_sps is.sps free (sps_in-append es ((Sp, ns) ∷ []));
+      many_pcs = is.many_pcs;
+      many_sps = length-set d.sps h (Some a) ∙ is.many_sps;
     })
 
 -- a directive may follow the others, or it is refused
 pub cases_entry : (d : Draft) (es : List Entry) (e : Entry) → IsDraft d es → Follows d es e ⊎ Refused d es e
-cases_entry d es (Begin kind, ns) is = by_begin d es kind ns is (refusal_after es (Begin kind, ns)) refl
-cases_entry d es (Put width, ns) is = by_put d es width ns is (refusal_after es (Put width, ns)) refl
-cases_entry d es (Pc, ns) is = by_pc d es ns is (refusal_after es (Pc, ns)) refl
-cases_entry d es (Sp, ns) is = by_sp d es ns is (refusal_after es (Sp, ns)) refl
+cases_entry d es (Begin kind, ns) is = by_begin d es kind ns is
+cases_entry d es (Put width, ns) is = by_put d es width ns is
+cases_entry d es (Pc, ns) is = by_pc d es ns is
+cases_entry d es (Sp, ns) is = by_sp d es ns is

@@ -1,5 +1,5 @@
 -- The text of an image reads as that image.
-use Rattle.std.proofs.Common.{◌≡◌, ℕ, zero, suc, ◌+◌, ◌-◌, ◌*◌, ◌/◌, ◌%◌, ◌≤◌, ◌<◌, ◌^◌, true, false, leb, List, [], ◌∷◌, ◌++◌, length, length-append, get_or, take, drop, map, reverse, replicate, Option, Some, None, Ok, refl, sym, ap, ◌∙◌, subst, append_assoc, arith}
+use Rattle.std.proofs.Common.{◌≡◌, ℕ, zero, suc, ◌+◌, ◌*◌, ◌/◌, ◌%◌, ◌≤◌, ◌<◌, ◌^◌, true, false, leb, List, [], ◌∷◌, ◌++◌, length, length-append, get_or, take, drop, map, reverse, replicate, Option, Some, None, Ok, refl, sym, ap, ◌∙◌, subst, append_assoc, arith}
 use Rattle.std.specs.Prelude.{codes}
 use Rattle.std.proofs.lemmas.Bool.{lt-ltb, le-ltb, le-leb, eq-eqb}
 use Rattle.std.proofs.lemmas.Fmt.{decimal_digit}
@@ -254,21 +254,22 @@ start_numbers d least most largest hart addr few fits =
     let addr_small : addr ≤ largest_of d = omega arith in
     record { fits = (hart_fits, (fits, tt)); small = (hart_small, (addr_small, tt)); count = rw (least, most) refl }
 
+-- a directive that gives a start as `start` does
+IsKind-start : (name : List ℕ) (d : Directive) (at : List (Option ℕ) → Draft) → IsName name d → least_of d ≡ 2 → most_of d ≡ 2 → largest_of d ≡ 18446744073709551615
+    → ((old : List (Option ℕ)) (hart addr : ℕ) → applied (at old) d (hart ∷ addr ∷ []) ≡ (start hart addr old >>= λ starts. Ok (at starts))) → IsKind name d at
+IsKind-start name d at is_name least most largest does = record {
+  is_name = is_name;
+  numbers = start_numbers d least most largest;
+  does = λ old new hart addr told. does old hart addr ∙ ap (λ r. r >>= λ starts. Ok (at starts)) told;
+}
+
 IsKind-pc : (parts : List Part) (sps : List (Option ℕ)) → IsKind (codes "pc") Pc (λ pcs. drafted parts pcs sps)
 unfolding applied
-IsKind-pc parts sps = record {
-  is_name = IsName-pc;
-  numbers = start_numbers Pc refl refl refl;
-  does = λ old new hart addr told. ap (λ r. r >>= λ pcs. Ok (drafted parts pcs sps)) told;
-}
+IsKind-pc parts sps = IsKind-start (codes "pc") Pc (λ pcs. drafted parts pcs sps) IsName-pc refl refl refl (λ old hart addr. refl)
 
 IsKind-sp : (parts : List Part) (pcs : List (Option ℕ)) → IsKind (codes "sp") Sp (λ sps. drafted parts pcs sps)
 unfolding applied
-IsKind-sp parts pcs = record {
-  is_name = IsName-sp;
-  numbers = start_numbers Sp refl refl refl;
-  does = λ old new hart addr told. ap (λ r. r >>= λ sps. Ok (drafted parts pcs sps)) told;
-}
+IsKind-sp parts pcs = IsKind-start (codes "sp") Sp (λ sps. drafted parts pcs sps) IsName-sp refl refl refl (λ old hart addr. refl)
 
 -- all lines from the second on
 Reads-all : (image : ImageRecord) → IsImage image → AllByRecursion StartFits image.pcs → AllByRecursion StartFits image.sps → Reads (drafted [] no_starts no_starts) (parts_text image.parts ++ (starts_text (codes "pc") 0 image.pcs ++ starts_text (codes "sp") 0 image.sps)) (drafted (reverse (map written image.parts)) image.pcs image.sps)

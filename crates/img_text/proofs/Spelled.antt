@@ -115,24 +115,25 @@ pub words_of-line : (name ns : List ℕ) → 0 < length name → Solid name → 
 words_of-line name ns some solid fits =
     words_of-solid name (tail_text ns) some solid (tail-end ns) ∙ ap (λ ws. name ∷ ws) (words_of-tail ns fits)
 
+-- among digits of a radix none is bad
+none_bad : (radix k : ℕ) (ds : List ℕ) → AllDigits radix ds → position_from (λ c. not (is_digit c radix)) k ds ≡ None
+none_bad radix k [] h = refl
+none_bad radix k (d ∷ ds) h =
+    let digit : nat_lt (digit_value d) radix ≡ true = lt-ltb (digit_value d) radix h.0 in
+    rw digit (none_bad radix (k + 1) ds h.1)
+
+pub first_bad-digits : (radix : ℕ) (ds : List ℕ) → AllDigits radix ds → first_bad radix ds ≡ None
+first_bad-digits radix ds h = position_from-zero (λ c. not (is_digit c radix)) ds ∙ none_bad radix 0 ds h
+
 -- digits are a number in decimal
-none_bad : (k : ℕ) (ds : List ℕ) → AllDigits 10 ds → position_from (λ c. not (is_digit c 10)) k ds ≡ None
-none_bad k [] h = refl
-none_bad k (d ∷ ds) h =
-    let digit : nat_lt (digit_value d) 10 ≡ true = lt-ltb (digit_value d) 10 h.0 in
-    rw digit (none_bad (k + 1) ds h.1)
-
-first_bad-digits : (ds : List ℕ) → AllDigits 10 ds → first_bad 10 ds ≡ None
-first_bad-digits ds h = position_from-zero (λ c. not (is_digit c 10)) ds ∙ none_bad 0 ds h
-
 number_of-digits : (ds : List ℕ) → 0 < length ds → AllDigits 10 ds → digits_value 10 ds < 2 ^ 64 → number_of 10 ds ≡ Ok (digits_value 10 ds)
 number_of-digits [] some digits fits = absurd (omega arith)
-number_of-digits (d ∷ []) some digits fits = rw (first_bad-digits (d ∷ []) digits, lt-ltb (digits_value 10 (d ∷ [])) (2 ^ 64) fits) refl
+number_of-digits (d ∷ []) some digits fits = rw (first_bad-digits 10 (d ∷ []) digits, lt-ltb (digits_value 10 (d ∷ [])) (2 ^ 64) fits) refl
 number_of-digits (d ∷ e ∷ ds) some digits fits =
     let range = digit_from_value e digits.1.0 in
     let no_small_x : eqb e 120 ≡ false = ne_eqb e 120 (λ (h : e ≡ 120). omega (arith, range.1)) in
     let no_large_x : eqb e 88 ≡ false = ne_eqb e 88 (λ (h : e ≡ 88). omega (arith, range.1)) in
-    rw (no_small_x, no_large_x, and_no) (rw (first_bad-digits (d ∷ e ∷ ds) digits, lt-ltb (digits_value 10 (d ∷ e ∷ ds)) (2 ^ 64) fits) refl)
+    rw (no_small_x, no_large_x, and_no) (rw (first_bad-digits 10 (d ∷ e ∷ ds) digits, lt-ltb (digits_value 10 (d ∷ e ∷ ds)) (2 ^ 64) fits) refl)
 
 pub number_of-dec_text : (n : ℕ) → n < 2 ^ 64 → number_of 10 (dec_text n) ≡ Ok n
 number_of-dec_text n fits =

@@ -1,12 +1,12 @@
 -- The values of a segment up to the last that isn't 0.
-use Rattle.std.proofs.Common.{◌≡◌, ℕ, zero, suc, ◌+◌, ◌-◌, ◌*◌, ◌/◌, ◌≤◌, ◌<◌, ◌==◌, true, false, cond, Bool, List, [], ◌∷◌, ◌++◌, length, length-append, take, drop, replicate, refl, sym, ap, ◌∙◌, append_assoc, arith}
+use Rattle.std.proofs.Common.{◌≡◌, ℕ, zero, suc, ◌+◌, ◌-◌, ◌*◌, ◌≤◌, ◌<◌, ◌==◌, true, false, cond, Bool, List, [], ◌∷◌, ◌++◌, length, length-append, take, drop, replicate, refl, sym, ap, ◌∙◌, append_assoc, arith}
 use Rattle.std.proofs.lemmas.Bool.{eqb-true}
-use Rattle.std.proofs.lemmas.List.{append-nil, drop-drop}
+use Rattle.std.proofs.lemmas.List.{drop-drop}
 use Rattle.std.specs.Int.{w64, from_le_bytes}
 use Rattle.std.specs.List.{flat_map}
 use Rattle.img_text.specs.declared.directive.Width.TheVariants.{Eight}
 use Rattle.img_text.specs.Reading.{value_bytes}
-use Rattle.img_text.specs.Writing.{values_of, before_used, used_values, written_values}
+use Rattle.img_text.specs.Writing.{values_of, before_used, used_values}
 
 -- the value of this number
 abbrev pub value_at : List ℕ → ℕ → ℕ

@@ -183,6 +183,11 @@ unfolding number_at
 number_at-value_of vars name value number is reads =
     ap (λ (o : Option (List ℕ)). number_of 10 (unwrap_or o [])) is ∙ reads
 
+-- the same, read in the variables that a table holds
+pub number_at-held : (vars held : Variables) (name value : List ℕ) (number : Result ℕ NumFault) → held ≡ vars → Some value ≡ value_of held name → number_of 10 value ≡ number → number_at vars name ≡ number
+number_at-held vars held name value number same is reads =
+    number_at-value_of vars name value number (ap (λ (vs : Variables). value_of vs name) (sym same) ∙ sym is) reads
+
 -- a value that is this text reads as this number
 pub number_of-text : (value text : List ℕ) (number : Result ℕ NumFault) → bytes_eq value text ≡ true → number_of 10 text ≡ number → number_of 10 value ≡ number
 number_of-text value text number is reads = ap (number_of 10) (same_name value text is) ∙ reads

@@ -4,6 +4,7 @@ ghost use Rattle.kdb_mem.specs.Range.{first_refused};
 ghost use Rattle.kdb_mem.specs.Shown.{instruction_line, instructions_text};
 
 use crate::MemFault;
+use crate::lines::Pushed;
 use crate::range::{first_unmapped, word_of_4};
 use mach_base::{Peek, push_address, push_bytes, push_newline};
 use rv_asm::push_insn;
@@ -40,12 +41,7 @@ fn first_refused<P: Peek>(mem: &P, addr: u64, len: u64) -> Option<u64>
     }
 }
 
-fn push_instruction_lines<P: Peek>(
-    mem: &P,
-    out: &mut Vec<u8>,
-    addr: u64,
-    count: u32,
-) -> Result<(), mach_base::OutOfMemory>
+fn push_instruction_lines<P: Peek>(mem: &P, out: &mut Vec<u8>, addr: u64, count: u32) -> Pushed
     requires { 0 < count → addr < 2 ^ 63 }
     ensures { OnOk result (out.new.items ≡ out.old.items ++ instructions_text (P.memory mem.now) addr count) }
 {
@@ -56,11 +52,7 @@ fn push_instruction_lines<P: Peek>(
 }
 
 #[tactic(auto, unfolding(crate::specs::Shown::instruction_line))]
-fn push_instruction_line<P: Peek>(
-    mem: &P,
-    out: &mut Vec<u8>,
-    addr: u64,
-) -> Result<(), mach_base::OutOfMemory>
+fn push_instruction_line<P: Peek>(mem: &P, out: &mut Vec<u8>, addr: u64) -> Pushed
     requires { addr + 4 ≤ 2 ^ 64 }
     ensures { OnOk result (out.new.items ≡ out.old.items ++ instruction_line (P.memory mem.now) addr) }
 {

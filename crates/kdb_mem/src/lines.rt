@@ -5,8 +5,11 @@ ghost use Rattle.kdb_mem.specs.Range.{first_unmapped};
 ghost use Rattle.kdb_mem.specs.Shown.{word_text, words_text, character, characters, line_text, whole_lines, short_line, show_text, byte_digits, raw_text};
 
 use crate::MemFault;
-use crate::range::{byte, first_unmapped, word};
+use crate::range::{byte, check_mapped, word};
 use mach_base::{Peek, push_address, push_bytes, push_hex, push_newline};
+
+/// What a call that appends gives: memory may run out.
+pub(crate) type Pushed = Result<(), mach_base::OutOfMemory>;
 
 /// Appends `count` words of `width` bytes from `addr` on, 16 bytes on a line. BadAddr comes exactly where not all of
 /// them are mapped. A refusal leaves `out` as it was.
@@ -22,10 +25,7 @@ pub fn show<P: Peek>(
     ensures ok { OnOk result (out.new.items ≡ out.old.items ++ show_text (P.memory mem.now) addr width count) }
     ensures err { OnErr result (out.new.items ≡ out.old.items) }
 {
-    match first_unmapped(mem, addr, u64::from(count) * u64::from(width)) {
-        Some(bad) => return Err(MemFault::BadAddr(bad)),
-        None => (),
-    }
+    check_mapped(mem, addr, u64::from(count) * u64::from(width))?;
     let mut text = Vec::new(*out.allocator());
     push_lines(mem, &mut text, addr, width, count)?;
     push_bytes(out, text.as_slice())?;
@@ -39,10 +39,7 @@ pub fn raw<P: Peek>(mem: &P, out: &mut Vec<u8>, addr: u64, count: u32) -> Result
     ensures ok { OnOk result (out.new.items ≡ out.old.items ++ raw_text (P.memory mem.now) addr count) }
     ensures err { OnErr result (out.new.items ≡ out.old.items) }
 {
-    match first_unmapped(mem, addr, u64::from(count)) {
-        Some(bad) => return Err(MemFault::BadAddr(bad)),
-        None => (),
-    }
+    check_mapped(mem, addr, u64::from(count))?;
     let mut text = Vec::new(*out.allocator());
     push_byte_digits(mem, &mut text, addr, count)?;
     push_newline(&mut text)?;
@@ -50,12 +47,7 @@ pub fn raw<P: Peek>(mem: &P, out: &mut Vec<u8>, addr: u64, count: u32) -> Result
     Ok(())
 }
 
-fn push_byte_digits<P: Peek>(
-    mem: &P,
-    out: &mut Vec<u8>,
-    addr: u64,
-    count: u32,
-) -> Result<(), mach_base::OutOfMemory>
+fn push_byte_digits<P: Peek>(mem: &P, out: &mut Vec<u8>, addr: u64, count: u32) -> Pushed
     requires { 0 < count → addr < 2 ^ 63 }
     ensures { OnOk result (out.new.items ≡ out.old.items ++ byte_digits (P.memory mem.now) addr count) }
 {
@@ -66,13 +58,7 @@ fn push_byte_digits<P: Peek>(
 }
 
 #[tactic(auto, using(crate::proofs::Ranges::some_to_divide, crate::proofs::Ranges::some_left), unfolding(crate::specs::Shown::show_text))]
-fn push_lines<P: Peek>(
-    mem: &P,
-    out: &mut Vec<u8>,
-    addr: u64,
-    width: u8,
-    count: u32,
-) -> Result<(), mach_base::OutOfMemory>
+fn push_lines<P: Peek>(mem: &P, out: &mut Vec<u8>, addr: u64, width: u8, count: u32) -> Pushed
     requires width { IsWidth width }
     requires low { 0 < count → addr < 2 ^ 63 }
     ensures { OnOk result (out.new.items ≡ out.old.items ++ show_text (P.memory mem.now) addr width count) }
@@ -107,13 +93,7 @@ fn words_per_line(width: u8) -> u8
     }
 }
 
-fn push_whole_lines<P: Peek>(
-    mem: &P,
-    out: &mut Vec<u8>,
-    addr: u64,
-    width: u8,
-    lines: u32,
-) -> Result<(), mach_base::OutOfMemory>
+fn push_whole_lines<P: Peek>(mem: &P, out: &mut Vec<u8>, addr: u64, width: u8, lines: u32) -> Pushed
     requires width { IsWidth width }
     requires low { 0 < lines → addr < 2 ^ 63 }
     ensures { OnOk result (out.new.items ≡ out.old.items ++ whole_lines (P.memory mem.now) addr width lines) }
@@ -133,7 +113,7 @@ fn push_short_line<P: Peek>(
     width: u8,
     lines: u32,
     words: u8,
-) -> Result<(), mach_base::OutOfMemory>
+) -> Pushed
     requires width { IsWidth width }
     requires words { words ≤ 16 }
     requires low { 0 < words → addr < 2 ^ 63 }
@@ -146,13 +126,7 @@ fn push_short_line<P: Peek>(
 }
 
 #[tactic(auto, unfolding(crate::specs::Shown::line_text))]
-fn push_line<P: Peek>(
-    mem: &P,
-    out: &mut Vec<u8>,
-    addr: u64,
-    width: u8,
-    words: u8,
-) -> Result<(), mach_base::OutOfMemory>
+fn push_line<P: Peek>(mem: &P, out: &mut Vec<u8>, addr: u64, width: u8, words: u8) -> Pushed
     requires width { IsWidth width }
     requires words { words ≤ 16 }
     requires room { addr + 256 ≤ 2 ^ 64 }
@@ -166,13 +140,7 @@ fn push_line<P: Peek>(
     Ok(())
 }
 
-fn push_words<P: Peek>(
-    mem: &P,
-    out: &mut Vec<u8>,
-    addr: u64,
-    width: u8,
-    words: u8,
-) -> Result<(), mach_base::OutOfMemory>
+fn push_words<P: Peek>(mem: &P, out: &mut Vec<u8>, addr: u64, width: u8, words: u8) -> Pushed
     requires width { IsWidth width }
     requires words { words ≤ 16 }
     requires room { addr + 256 ≤ 2 ^ 64 }
@@ -186,12 +154,7 @@ fn push_words<P: Peek>(
 
 /// Appends a word, its value in two digits a byte, after a blank.
 #[tactic(auto, unfolding(crate::specs::Shown::word_text))]
-pub(crate) fn push_word<P: Peek>(
-    mem: &P,
-    out: &mut Vec<u8>,
-    addr: u64,
-    width: u8,
-) -> Result<(), mach_base::OutOfMemory>
+pub(crate) fn push_word<P: Peek>(mem: &P, out: &mut Vec<u8>, addr: u64, width: u8) -> Pushed
     requires width { IsWidth width }
     requires room { addr + 8 ≤ 2 ^ 64 }
     ensures { OnOk result (out.new.items ≡ out.old.items ++ word_text (P.memory mem.now) addr width) }
@@ -201,12 +164,7 @@ pub(crate) fn push_word<P: Peek>(
     Ok(())
 }
 
-fn push_characters<P: Peek>(
-    mem: &P,
-    out: &mut Vec<u8>,
-    addr: u64,
-    count: u8,
-) -> Result<(), mach_base::OutOfMemory>
+fn push_characters<P: Peek>(mem: &P, out: &mut Vec<u8>, addr: u64, count: u8) -> Pushed
     requires { addr + 256 ≤ 2 ^ 64 }
     ensures { OnOk result (out.new.items ≡ out.old.items ++ characters (P.memory mem.now) addr count) }
 {

@@ -1,7 +1,9 @@
-ghost use Rattle.std.specs.Prelude.{◌≡◌, false, ◌*◌, ◌<◌, ◌≤◌, ◌+◌, ◌^◌, IfNone};
+ghost use Rattle.std.specs.Prelude.{◌≡◌, false, ◌*◌, ◌<◌, ◌≤◌, ◌+◌, ◌^◌, Ok, Err, IfNone, OnOk, MatchOption};
 ghost use Rattle.mach_base.specs.Bytes.{IsWidth, byte_or_zero, number_in};
+ghost use Rattle.kdb_mem.specs.declared.mem_fault.MemFault.TheVariants.{BadAddr};
 ghost use Rattle.kdb_mem.specs.Range.{is_unmapped, first_unmapped};
 
+use crate::MemFault;
 use mach_base::Peek;
 
 /// The first unmapped address of `len` bytes from `addr` on; None where all of them are mapped.
@@ -18,6 +20,18 @@ pub fn first_unmapped<P: Peek>(mem: &P, addr: u64, len: u64) -> Option<u64>
         return Some(addr);
     }
     (addr..addr + len).find(|at| is_unmapped(mem, *at))
+}
+
+/// Refuses `len` bytes from `addr` on by the first of them that is unmapped.
+pub fn check_mapped<P: Peek>(mem: &P, addr: u64, len: u64) -> Result<(), MemFault>
+    requires { len < 2 ^ 40 }
+    ensures refused { MatchOption (first_unmapped (P.memory mem.now) addr len) (result ≡ Ok tt) (λ bad. result ≡ Err (MemFault.BadAddr bad)) }
+    ensures low { OnOk result (0 < len → addr < 2 ^ 63) }
+{
+    match first_unmapped(mem, addr, len) {
+        Some(bad) => Err(MemFault::BadAddr(bad)),
+        None => Ok(()),
+    }
 }
 
 fn is_unmapped<P: Peek>(mem: &P, addr: u64) -> bool
@@ -74,14 +88,7 @@ fn word_of_8<P: Peek>(mem: &P, addr: u64) -> u64
     requires { addr + 8 ≤ 2 ^ 64 }
     ensures { result ≡ number_in (P.memory mem.now) addr 8 }
 {
-    u64::from_le_bytes([
-        byte(mem, addr),
-        byte(mem, addr + 1),
-        byte(mem, addr + 2),
-        byte(mem, addr + 3),
-        byte(mem, addr + 4),
-        byte(mem, addr + 5),
-        byte(mem, addr + 6),
-        byte(mem, addr + 7),
-    ])
+    let low = u64::from(word_of_4(mem, addr));
+    let high = u64::from(word_of_4(mem, addr + 4));
+    low + high * 0x1_0000_0000
 }

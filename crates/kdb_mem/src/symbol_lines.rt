@@ -4,8 +4,8 @@ ghost use Rattle.kdb_mem.specs.Range.{first_unmapped};
 ghost use Rattle.kdb_mem.specs.Shown.{symbol_line, syms_text};
 
 use crate::MemFault;
-use crate::lines::push_word;
-use crate::range::{first_unmapped, word};
+use crate::lines::{Pushed, push_word};
+use crate::range::{check_mapped, word};
 use mach_base::{Peek, push_address, push_bytes, push_newline};
 use sym_map::{Symbols, push_name};
 
@@ -22,10 +22,7 @@ pub fn syms<P: Peek>(
     ensures ok { OnOk result (out.new.items ≡ out.old.items ++ syms_text (P.memory mem.now) names.now addr count) }
     ensures err { OnErr result (out.new.items ≡ out.old.items) }
 {
-    match first_unmapped(mem, addr, u64::from(count) * 8) {
-        Some(bad) => return Err(MemFault::BadAddr(bad)),
-        None => (),
-    }
+    check_mapped(mem, addr, u64::from(count) * 8)?;
     let mut text = Vec::new(*out.allocator());
     push_symbol_lines(mem, names, &mut text, addr, count)?;
     push_bytes(out, text.as_slice())?;
@@ -38,7 +35,7 @@ fn push_symbol_lines<P: Peek>(
     out: &mut Vec<u8>,
     addr: u64,
     count: u32,
-) -> Result<(), mach_base::OutOfMemory>
+) -> Pushed
     requires { 0 < count → addr < 2 ^ 63 }
     ensures { OnOk result (out.new.items ≡ out.old.items ++ syms_text (P.memory mem.now) names.now addr count) }
 {
@@ -49,12 +46,7 @@ fn push_symbol_lines<P: Peek>(
 }
 
 #[tactic(auto, unfolding(crate::specs::Shown::symbol_line))]
-fn push_symbol_line<P: Peek>(
-    mem: &P,
-    names: &Symbols,
-    out: &mut Vec<u8>,
-    addr: u64,
-) -> Result<(), mach_base::OutOfMemory>
+fn push_symbol_line<P: Peek>(mem: &P, names: &Symbols, out: &mut Vec<u8>, addr: u64) -> Pushed
     requires { addr + 8 ≤ 2 ^ 64 }
     ensures { OnOk result (out.new.items ≡ out.old.items ++ symbol_line (P.memory mem.now) names.now addr) }
 {

@@ -11,7 +11,7 @@ use Rattle.rv_table.specs.declared.op.Op.{Op}
 use Rattle.rv_table.specs.declared.table.Row.{Row}
 use Rattle.rv_table.specs.Rows.{row_for, row_of, matches}
 use Rattle.rv_table.proofs.Found.{op-row_for, row_of-matches, row_of-Some}
-use Rattle.rv_decode.specs.Bits.{bits_at, flag_at, signed}
+use Rattle.rv_decode.specs.Bits.{bits_at, flag_at, signed, is_unsigned}
 use Rattle.rv_decode.specs.Encoding.{moved, immediate_bits, encoded}
 use Rattle.rv_decode.specs.Fields.{Fields, i_immediate, s_immediate, b_immediate, u_immediate, j_immediate, immediate, has_rd, has_rs1, has_rs2, has_order, fields_in, fits_immediate, fits_form, decoded}
 use Rattle.rv_decode.proofs.Masks.{mask_of, mask-row_for, value-row_for, and_opcode, and_funct3, and_funct6, and_funct7, and_funct5, and_funct5_rs2, and_whole}
@@ -170,190 +170,115 @@ Fits-fits_of form f h =
     let a = and_parts _ _ h in let b = and_parts _ _ a.1 in let c = and_parts _ _ b.1 in let d = and_parts _ _ c.1 in
     record { rd = a.0; rs1 = b.0; rs2 = c.0; order = d.0; imm = d.1 }
 
-no_order : (x y : Bool) → (not x && not y) ≡ true → (x ≡ false) × (y ≡ false)
-no_order false false h = (refl, refl)
-no_order true y h = absurd (false≢true h)
-no_order false true h = absurd (false≢true h)
+-- the fields that the form has; one that it lacks is 0 or false
+unfoldable held : Form → Fields → Fields
+held form f =
+    make f.op (cond (has_rd form) f.rd 0) (cond (has_rs1 form) f.rs1 0) (cond (has_rs2 form) f.rs2 0) f.imm
+    (has_order form && f.aq) (has_order form && f.rl)
 
--- a value that its form's mask leaves whole, with fields that fit the form
+register-held : (has : Bool) (x : ℕ) → (has || (x == 0)) ≡ true → x ≡ cond has x 0
+register-held true x h = refl
+register-held false x h = eqb-true x 0 h
+
+order-held : (has x y : Bool) → (has || (not x && not y)) ≡ true → (x ≡ (has && x)) × (y ≡ (has && y))
+order-held true x y h = (refl, refl)
+order-held false false false h = (refl, refl)
+order-held false true y h = absurd (false≢true h)
+order-held false false true h = absurd (false≢true h)
+
+fields-held : (form : Form) (f : Fields) → Fits form f → f ≡ held form f
+unfolding held make
+fields-held form f fit =
+    let order = order-held (has_order form) f.aq f.rl fit.order in
+    same_fields f (held form f) refl (register-held (has_rd form) f.rd fit.rd) (register-held (has_rs1 form) f.rs1 fit.rs1)
+    (register-held (has_rs2 form) f.rs2 fit.rs2) refl order.0 order.1
+
+-- an immediate of no bits is 0
+no_immediate : (imm : ℤ) → is_unsigned 0 imm ≡ true → pos 0 ≡ imm
+no_immediate imm fit =
+    let x = signs.unsigned_value 0 imm fit in
+    let none : 0 ≡ x.0 = omega arith in
+    ap pos none ∙ sym x.1
+
+-- a bit that a flag was written to is read as the flag
+flag_again : (flag : Bool) (bit : ℕ) → bit ≡ from_bool flag → (bit == 1) ≡ flag
+flag_again flag bit is = ap (λ b. b == 1) is ∙ signs.flag-from_bool flag
+
+-- a value that its form's mask leaves whole, with the fields that the form has
+held-word : (form : Form) (v : ℕ) (f : Fields) → bit_and v (mask_of form) ≡ v → f.rd < 32 → f.rs1 < 32 → f.rs2 < 32
+    → fits_immediate form f.imm ≡ true → IsWordOf form v (held form f) (word_in form v (held form f))
+unfolding word_in fields_in immediate immediate_bits has_rd has_rs1 has_rs2 has_order fits_immediate held make
+held-word U v f h r s t fit =
+    let w : ℕ = word_in U v (held U f) in
+    let range = and_parts _ _ fit in
+    let few = signs.pattern-multiple_4096 f.imm (signs.is_signed_32 32 f.imm (lit≤ tt) range.0) range.1 in
+    let parts = words.back_u v f.rd (cast_unsigned w32 f.imm) w (sym h ∙ and_opcode v) r (signs.pattern-lt f.imm range.0) few refl in
+    let imm = ap (signed 32) parts.3 ∙ signs.signed-pattern 32 0 f.imm refl refl range.0 in
+    record { below = parts.0; under = and_opcode w ∙ parts.1; fields = same_fields (fields_in U f.op w) (held U f) refl parts.2 refl refl imm refl refl }
+held-word J v f h r s t fit =
+    let w : ℕ = word_in J v (held J f) in
+    let range = and_parts _ _ fit in
+    let even = signs.pattern-multiple_2 f.imm (signs.is_signed_32 21 f.imm (lit≤ tt) range.0) range.1 in
+    let parts = words.back_j v f.rd (cast_unsigned w32 f.imm) w (sym h ∙ and_opcode v) r even refl in
+    let imm = ap (signed 21) parts.3 ∙ signs.signed-pattern 21 2047 f.imm refl refl range.0 in
+    record { below = parts.0; under = and_opcode w ∙ parts.1; fields = same_fields (fields_in J f.op w) (held J f) refl parts.2 refl refl imm refl refl }
+held-word I v f h r s t fit =
+    let w : ℕ = word_in I v (held I f) in
+    let parts = words.back_i v f.rd f.rs1 (cast_unsigned w32 f.imm) w (sym h ∙ and_funct3 v) r s refl in
+    let imm = ap (signed 12) parts.4 ∙ signs.signed-pattern 12 1048575 f.imm refl refl fit in
+    record { below = parts.0; under = and_funct3 w ∙ parts.1; fields = same_fields (fields_in I f.op w) (held I f) refl parts.2 parts.3 refl imm refl refl }
+held-word Fence v f h r s t fit =
+    let w : ℕ = word_in Fence v (held Fence f) in
+    let x = signs.unsigned_value 12 f.imm fit in
+    let parts = words.back_i v f.rd f.rs1 x.0 w (sym h ∙ and_funct3 v) r s (ap (λ z. word_of v f.rd f.rs1 0 0 0 (moved (cast_unsigned w32 z) 0 12 20)) x.1) in
+    let imm = ap pos (parts.4 ∙ signs.mod_small x.0 12 x.2) ∙ sym x.1 in
+    record { below = parts.0; under = and_funct3 w ∙ parts.1; fields = same_fields (fields_in Fence f.op w) (held Fence f) refl parts.2 parts.3 refl imm refl refl }
+held-word B v f h r s t fit =
+    let w : ℕ = word_in B v (held B f) in
+    let range = and_parts _ _ fit in
+    let even = signs.pattern-multiple_2 f.imm (signs.is_signed_32 13 f.imm (lit≤ tt) range.0) range.1 in
+    let parts = words.back_b v f.rs1 f.rs2 (cast_unsigned w32 f.imm) w (sym h ∙ and_funct3 v) s t even refl in
+    let imm = ap (signed 13) parts.4 ∙ signs.signed-pattern 13 524287 f.imm refl refl range.0 in
+    record { below = parts.0; under = and_funct3 w ∙ parts.1; fields = same_fields (fields_in B f.op w) (held B f) refl refl parts.2 parts.3 imm refl refl }
+held-word S v f h r s t fit =
+    let w : ℕ = word_in S v (held S f) in
+    let parts = words.back_s v f.rs1 f.rs2 (cast_unsigned w32 f.imm) w (sym h ∙ and_funct3 v) s t refl in
+    let imm = ap (signed 12) parts.4 ∙ signs.signed-pattern 12 1048575 f.imm refl refl fit in
+    record { below = parts.0; under = and_funct3 w ∙ parts.1; fields = same_fields (fields_in S f.op w) (held S f) refl refl parts.2 parts.3 imm refl refl }
+held-word Shift6 v f h r s t fit =
+    let w : ℕ = word_in Shift6 v (held Shift6 f) in
+    let x = signs.unsigned_value 6 f.imm fit in
+    let parts = words.back_shift6 v f.rd f.rs1 x.0 w (sym h ∙ and_funct6 v) r s x.2 (ap (λ z. word_of v f.rd f.rs1 0 0 0 (moved (cast_unsigned w32 z) 0 6 20)) x.1) in
+    record { below = parts.0; under = and_funct6 w ∙ parts.1; fields = same_fields (fields_in Shift6 f.op w) (held Shift6 f) refl parts.2 parts.3 refl (ap pos parts.4 ∙ sym x.1) refl refl }
+held-word Shift5 v f h r s t fit =
+    let w : ℕ = word_in Shift5 v (held Shift5 f) in
+    let x = signs.unsigned_value 5 f.imm fit in
+    let parts = words.back_shift5 v f.rd f.rs1 x.0 w (sym h ∙ and_funct7 v) r s x.2 (ap (λ z. word_of v f.rd f.rs1 0 0 0 (moved (cast_unsigned w32 z) 0 5 20)) x.1) in
+    record { below = parts.0; under = and_funct7 w ∙ parts.1; fields = same_fields (fields_in Shift5 f.op w) (held Shift5 f) refl parts.2 parts.3 refl (ap pos parts.4 ∙ sym x.1) refl refl }
+held-word R v f h r s t fit =
+    let w : ℕ = word_in R v (held R f) in
+    let parts = words.back_r v f.rd f.rs1 f.rs2 w (sym h ∙ and_funct7 v) r s t refl in
+    record { below = parts.0; under = and_funct7 w ∙ parts.1; fields = same_fields (fields_in R f.op w) (held R f) refl parts.2 parts.3 parts.4 (no_immediate f.imm fit) refl refl }
+held-word Lr v f h r s t fit =
+    let w : ℕ = word_in Lr v (held Lr f) in
+    let parts = words.back_lr v f.rd f.rs1 (from_bool f.aq) (from_bool f.rl) w (sym h ∙ and_funct5_rs2 v) r s (signs.from_bool-lt f.aq) (signs.from_bool-lt f.rl) refl in
+    record { below = parts.0; under = and_funct5_rs2 w ∙ parts.1; fields = same_fields (fields_in Lr f.op w) (held Lr f) refl parts.2 parts.3 refl (no_immediate f.imm fit) (flag_again f.aq _ parts.4) (flag_again f.rl _ parts.5) }
+held-word Amo v f h r s t fit =
+    let w : ℕ = word_in Amo v (held Amo f) in
+    let parts = words.back_amo v f.rd f.rs1 f.rs2 (from_bool f.aq) (from_bool f.rl) w (sym h ∙ and_funct5 v) r s t (signs.from_bool-lt f.aq) (signs.from_bool-lt f.rl) refl in
+    record { below = parts.0; under = and_funct5 w ∙ parts.1; fields = same_fields (fields_in Amo f.op w) (held Amo f) refl parts.2 parts.3 parts.4 (no_immediate f.imm fit) (flag_again f.aq _ parts.5) (flag_again f.rl _ parts.6) }
+held-word Sys v f h r s t fit =
+    let w : ℕ = word_in Sys v (held Sys f) in
+    let hv : v ≡ v % 2 ^ 32 = sym h ∙ and_mask v 32 in
+    let alone : w ≡ word_of v 0 0 0 0 0 0 = refl in
+    let same : w ≡ v = omega arith in
+    record { below = omega arith; under = and_whole w (omega arith) ∙ same; fields = same_fields (fields_in Sys f.op w) (held Sys f) refl refl refl refl (no_immediate f.imm fit) refl refl }
+
+-- so it is with fields that fit the form
 back : (form : Form) (v : ℕ) (f : Fields) → bit_and v (mask_of form) ≡ v → f.rd < 32 → f.rs1 < 32 → f.rs2 < 32 → Fits form f
     → IsWordOf form v f (word_in form v f)
-unfolding word_in fields_in immediate immediate_bits has_rd has_rs1 has_rs2 has_order fits_immediate
-back U v f h r s t fit =
-    let w : ℕ = word_in U v f in
-    let no_rs1 : f.rs1 ≡ 0 = eqb-true _ _ fit.rs1 in
-    let no_rs2 : f.rs2 ≡ 0 = eqb-true _ _ fit.rs2 in
-    let quiet = no_order f.aq f.rl fit.order in
-    let no_aq : from_bool f.aq ≡ 0 = ap from_bool quiet.0 in
-    let no_rl : from_bool f.rl ≡ 0 = ap from_bool quiet.1 in
-    let range = and_parts _ _ fit.imm in
-    let p : ℕ = cast_unsigned w32 f.imm in
-    let parts = words.back_u v f.rd p w (sym h ∙ and_opcode v) r (signs.pattern-lt f.imm range.0) (signs.pattern-multiple_4096 f.imm (signs.is_signed_32 32 f.imm (lit≤ tt) range.0) range.1) (omega arith) in
-    record {
-      below = parts.0;
-      under = and_opcode w ∙ parts.1;
-      fields = same_fields (fields_in U f.op w) f refl parts.2 (sym no_rs1) (sym no_rs2)
-          (ap (signed 32) parts.3 ∙ signs.signed-pattern 32 0 f.imm refl refl range.0) (sym quiet.0) (sym quiet.1);
-    }
-back J v f h r s t fit =
-    let w : ℕ = word_in J v f in
-    let no_rs1 : f.rs1 ≡ 0 = eqb-true _ _ fit.rs1 in
-    let no_rs2 : f.rs2 ≡ 0 = eqb-true _ _ fit.rs2 in
-    let quiet = no_order f.aq f.rl fit.order in
-    let no_aq : from_bool f.aq ≡ 0 = ap from_bool quiet.0 in
-    let no_rl : from_bool f.rl ≡ 0 = ap from_bool quiet.1 in
-    let range = and_parts _ _ fit.imm in
-    let p : ℕ = cast_unsigned w32 f.imm in
-    let parts = words.back_j v f.rd p w (sym h ∙ and_opcode v) r (signs.pattern-multiple_2 f.imm (signs.is_signed_32 21 f.imm (lit≤ tt) range.0) range.1) (omega arith) in
-    record {
-      below = parts.0;
-      under = and_opcode w ∙ parts.1;
-      fields = same_fields (fields_in J f.op w) f refl parts.2 (sym no_rs1) (sym no_rs2)
-          (ap (signed 21) parts.3 ∙ signs.signed-pattern 21 2047 f.imm refl refl range.0) (sym quiet.0) (sym quiet.1);
-    }
-back I v f h r s t fit =
-    let w : ℕ = word_in I v f in
-    let no_rs2 : f.rs2 ≡ 0 = eqb-true _ _ fit.rs2 in
-    let quiet = no_order f.aq f.rl fit.order in
-    let no_aq : from_bool f.aq ≡ 0 = ap from_bool quiet.0 in
-    let no_rl : from_bool f.rl ≡ 0 = ap from_bool quiet.1 in
-    let p : ℕ = cast_unsigned w32 f.imm in
-    let parts = words.back_i v f.rd f.rs1 p w (sym h ∙ and_funct3 v) r s (omega arith) in
-    record {
-      below = parts.0;
-      under = and_funct3 w ∙ parts.1;
-      fields = same_fields (fields_in I f.op w) f refl parts.2 parts.3 (sym no_rs2)
-          (ap (signed 12) parts.4 ∙ signs.signed-pattern 12 1048575 f.imm refl refl fit.imm) (sym quiet.0) (sym quiet.1);
-    }
-back Fence v f h r s t fit =
-    let w : ℕ = word_in Fence v f in
-    let no_rs2 : f.rs2 ≡ 0 = eqb-true _ _ fit.rs2 in
-    let quiet = no_order f.aq f.rl fit.order in
-    let no_aq : from_bool f.aq ≡ 0 = ap from_bool quiet.0 in
-    let no_rl : from_bool f.rl ≡ 0 = ap from_bool quiet.1 in
-    let x = signs.unsigned_value 12 f.imm fit.imm in
-    let p_is : cast_unsigned w32 f.imm ≡ x.0 = ap (cast_unsigned w32) x.1 in
-    let parts = words.back_i v f.rd f.rs1 x.0 w (sym h ∙ and_funct3 v) r s (omega arith) in
-    record {
-      below = parts.0;
-      under = and_funct3 w ∙ parts.1;
-      fields = same_fields (fields_in Fence f.op w) f refl parts.2 parts.3 (sym no_rs2)
-          (ap pos (parts.4 ∙ signs.mod_small x.0 12 x.2) ∙ sym x.1) (sym quiet.0) (sym quiet.1);
-    }
-back B v f h r s t fit =
-    let w : ℕ = word_in B v f in
-    let no_rd : f.rd ≡ 0 = eqb-true _ _ fit.rd in
-    let quiet = no_order f.aq f.rl fit.order in
-    let no_aq : from_bool f.aq ≡ 0 = ap from_bool quiet.0 in
-    let no_rl : from_bool f.rl ≡ 0 = ap from_bool quiet.1 in
-    let range = and_parts _ _ fit.imm in
-    let p : ℕ = cast_unsigned w32 f.imm in
-    let parts = words.back_b v f.rs1 f.rs2 p w (sym h ∙ and_funct3 v) s t (signs.pattern-multiple_2 f.imm (signs.is_signed_32 13 f.imm (lit≤ tt) range.0) range.1) (omega arith) in
-    record {
-      below = parts.0;
-      under = and_funct3 w ∙ parts.1;
-      fields = same_fields (fields_in B f.op w) f refl (sym no_rd) parts.2 parts.3
-          (ap (signed 13) parts.4 ∙ signs.signed-pattern 13 524287 f.imm refl refl range.0) (sym quiet.0) (sym quiet.1);
-    }
-back S v f h r s t fit =
-    let w : ℕ = word_in S v f in
-    let no_rd : f.rd ≡ 0 = eqb-true _ _ fit.rd in
-    let quiet = no_order f.aq f.rl fit.order in
-    let no_aq : from_bool f.aq ≡ 0 = ap from_bool quiet.0 in
-    let no_rl : from_bool f.rl ≡ 0 = ap from_bool quiet.1 in
-    let p : ℕ = cast_unsigned w32 f.imm in
-    let parts = words.back_s v f.rs1 f.rs2 p w (sym h ∙ and_funct3 v) s t (omega arith) in
-    record {
-      below = parts.0;
-      under = and_funct3 w ∙ parts.1;
-      fields = same_fields (fields_in S f.op w) f refl (sym no_rd) parts.2 parts.3
-          (ap (signed 12) parts.4 ∙ signs.signed-pattern 12 1048575 f.imm refl refl fit.imm) (sym quiet.0) (sym quiet.1);
-    }
-back Shift6 v f h r s t fit =
-    let w : ℕ = word_in Shift6 v f in
-    let no_rs2 : f.rs2 ≡ 0 = eqb-true _ _ fit.rs2 in
-    let quiet = no_order f.aq f.rl fit.order in
-    let no_aq : from_bool f.aq ≡ 0 = ap from_bool quiet.0 in
-    let no_rl : from_bool f.rl ≡ 0 = ap from_bool quiet.1 in
-    let x = signs.unsigned_value 6 f.imm fit.imm in
-    let p_is : cast_unsigned w32 f.imm ≡ x.0 = ap (cast_unsigned w32) x.1 in
-    let parts = words.back_shift6 v f.rd f.rs1 x.0 w (sym h ∙ and_funct6 v) r s x.2 (omega arith) in
-    record {
-      below = parts.0;
-      under = and_funct6 w ∙ parts.1;
-      fields = same_fields (fields_in Shift6 f.op w) f refl parts.2 parts.3 (sym no_rs2)
-          (ap pos parts.4 ∙ sym x.1) (sym quiet.0) (sym quiet.1);
-    }
-back Shift5 v f h r s t fit =
-    let w : ℕ = word_in Shift5 v f in
-    let no_rs2 : f.rs2 ≡ 0 = eqb-true _ _ fit.rs2 in
-    let quiet = no_order f.aq f.rl fit.order in
-    let no_aq : from_bool f.aq ≡ 0 = ap from_bool quiet.0 in
-    let no_rl : from_bool f.rl ≡ 0 = ap from_bool quiet.1 in
-    let x = signs.unsigned_value 5 f.imm fit.imm in
-    let p_is : cast_unsigned w32 f.imm ≡ x.0 = ap (cast_unsigned w32) x.1 in
-    let parts = words.back_shift5 v f.rd f.rs1 x.0 w (sym h ∙ and_funct7 v) r s x.2 (omega arith) in
-    record {
-      below = parts.0;
-      under = and_funct7 w ∙ parts.1;
-      fields = same_fields (fields_in Shift5 f.op w) f refl parts.2 parts.3 (sym no_rs2)
-          (ap pos parts.4 ∙ sym x.1) (sym quiet.0) (sym quiet.1);
-    }
-back R v f h r s t fit =
-    let w : ℕ = word_in R v f in
-    let quiet = no_order f.aq f.rl fit.order in
-    let no_aq : from_bool f.aq ≡ 0 = ap from_bool quiet.0 in
-    let no_rl : from_bool f.rl ≡ 0 = ap from_bool quiet.1 in
-    let x = signs.unsigned_value 0 f.imm fit.imm in
-    let parts = words.back_r v f.rd f.rs1 f.rs2 w (sym h ∙ and_funct7 v) r s t (omega arith) in
-    let none : 0 ≡ x.0 = omega arith in
-    record {
-      below = parts.0;
-      under = and_funct7 w ∙ parts.1;
-      fields = same_fields (fields_in R f.op w) f refl parts.2 parts.3 parts.4
-          (ap pos none ∙ sym x.1) (sym quiet.0) (sym quiet.1);
-    }
-back Lr v f h r s t fit =
-    let w : ℕ = word_in Lr v f in
-    let no_rs2 : f.rs2 ≡ 0 = eqb-true _ _ fit.rs2 in
-    let x = signs.unsigned_value 0 f.imm fit.imm in
-    let parts = words.back_lr v f.rd f.rs1 (from_bool f.aq) (from_bool f.rl) w (sym h ∙ and_funct5_rs2 v) r s (signs.from_bool-lt f.aq) (signs.from_bool-lt f.rl) (omega arith) in
-    let none : 0 ≡ x.0 = omega arith in
-    record {
-      below = parts.0;
-      under = and_funct5_rs2 w ∙ parts.1;
-      fields = same_fields (fields_in Lr f.op w) f refl parts.2 parts.3 (sym no_rs2)
-          (ap pos none ∙ sym x.1) (ap (λ b. b == 1) parts.4 ∙ signs.flag-from_bool f.aq) (ap (λ b. b == 1) parts.5 ∙ signs.flag-from_bool f.rl);
-    }
-back Amo v f h r s t fit =
-    let w : ℕ = word_in Amo v f in
-    let x = signs.unsigned_value 0 f.imm fit.imm in
-    let parts = words.back_amo v f.rd f.rs1 f.rs2 (from_bool f.aq) (from_bool f.rl) w (sym h ∙ and_funct5 v) r s t (signs.from_bool-lt f.aq) (signs.from_bool-lt f.rl) (omega arith) in
-    let none : 0 ≡ x.0 = omega arith in
-    record {
-      below = parts.0;
-      under = and_funct5 w ∙ parts.1;
-      fields = same_fields (fields_in Amo f.op w) f refl parts.2 parts.3 parts.4
-          (ap pos none ∙ sym x.1) (ap (λ b. b == 1) parts.5 ∙ signs.flag-from_bool f.aq) (ap (λ b. b == 1) parts.6 ∙ signs.flag-from_bool f.rl);
-    }
-back Sys v f h r s t fit =
-    let w : ℕ = word_in Sys v f in
-    let no_rd : f.rd ≡ 0 = eqb-true _ _ fit.rd in
-    let no_rs1 : f.rs1 ≡ 0 = eqb-true _ _ fit.rs1 in
-    let no_rs2 : f.rs2 ≡ 0 = eqb-true _ _ fit.rs2 in
-    let quiet = no_order f.aq f.rl fit.order in
-    let no_aq : from_bool f.aq ≡ 0 = ap from_bool quiet.0 in
-    let no_rl : from_bool f.rl ≡ 0 = ap from_bool quiet.1 in
-    let x = signs.unsigned_value 0 f.imm fit.imm in
-    let hv : v ≡ v % 2 ^ 32 = sym h ∙ and_mask v 32 in
-    let same : w ≡ v = omega arith in
-    let none : 0 ≡ x.0 = omega arith in
-    record {
-      below = omega arith;
-      under = and_whole w (omega arith) ∙ same;
-      fields = same_fields (fields_in Sys f.op w) f refl (sym no_rd) (sym no_rs1) (sym no_rs2)
-          (ap pos none ∙ sym x.1) (sym quiet.0) (sym quiet.1);
-    }
+back form v f h r s t fit =
+    subst (λ g. IsWordOf form v g (word_in form v g)) (sym (fields-held form f fit)) (held-word form v f h r s t fit.imm)
 
 -- an instruction's word has 32 bits and is decoded as the instruction
 pub decoded-encoded : (f : Fields) → f.rd < 32 → f.rs1 < 32 → f.rs2 < 32 → fits_of (row_for f.op).form f ≡ true

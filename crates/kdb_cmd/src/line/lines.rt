@@ -2,7 +2,7 @@ ghost use Rattle.std.specs.Prelude.{◌≡◌, ◌<◌, ◌^◌, true, false, le
 ghost use Rattle.mach_base.specs.Masks.{has_bit};
 ghost use Rattle.kdb_view.specs.State.{state_of};
 ghost use Rattle.kdb_cmd.specs.Desk.{IsReady, IsSameDesk, Changes, Says};
-ghost use Rattle.kdb_cmd.specs.Line.{outer_meaning, outer_answer, macro_called, words_answer, cut_line, stored_answer, line_answer, LineSays};
+ghost use Rattle.kdb_cmd.specs.Line.{outer_meaning, macro_called, words_answer, cut_line, stored_answer, line_answer, LineSays};
 
 use crate::desk::{Desk, Gathering};
 use crate::line::first_word::{FirstWord, first_word_of};
@@ -42,23 +42,6 @@ fn outer_meaning<P: Peek>(
     }
 }
 
-/// The same. A diagnostic changes nothing.
-#[tactic(auto, using(crate::proofs::Meant::says_from), unfolding(crate::specs::Line::outer_answer))]
-fn outer_answer<P: Peek>(
-    desk: &mut Desk<P>,
-    first_word: FirstWord,
-    words: &[Text],
-) -> Result<Said, OutOfMemory>
-    requires ready { IsReady P.memory desk.old }
-    requires defining { desk.old.kdb.now.macros.defining ≡ false }
-    ensures answer { Says P.memory result desk.old desk.new (outer_answer first_word words.now) }
-    ensures ready { IsReady P.memory desk.new }
-    ensures same { IsSameDesk P.rest desk.old desk.new }
-{
-    let meant = outer_meaning(desk, first_word, words);
-    said_or_line(desk.alloc, words, meant)
-}
-
 /// The macro that a line of these words calls; a call has no arguments.
 fn macro_called(first_word: FirstWord, words: &[Text]) -> Option<usize>
     ensures { result ≡ macro_called first_word words.now }
@@ -69,8 +52,8 @@ fn macro_called(first_word: FirstWord, words: &[Text]) -> Option<usize>
     }
 }
 
-/// A line of these words.
-#[tactic(auto, unfolding(crate::specs::Line::words_answer))]
+/// A line of these words. A diagnostic changes nothing.
+#[tactic(auto, using(crate::proofs::Meant::says_from), unfolding(crate::specs::Line::words_answer, crate::specs::Line::outer_answer))]
 fn words_answer<P: Peek>(desk: &mut Desk<P>, words: &[Text]) -> Result<Said, OutOfMemory>
     requires ready { IsReady P.memory desk.old }
     requires defining { desk.old.kdb.now.macros.defining ≡ false }
@@ -81,7 +64,10 @@ fn words_answer<P: Peek>(desk: &mut Desk<P>, words: &[Text]) -> Result<Said, Out
     let first_word = first_word_of(&desk.kdb.macros, words);
     match macro_called(first_word, words) {
         Some(number) => run_macro(desk, number),
-        None => outer_answer(desk, first_word, words),
+        None => {
+            let meant = outer_meaning(desk, first_word, words);
+            said_or_line(desk.alloc, words, meant)
+        }
     }
 }
 

@@ -1,6 +1,6 @@
 ghost use Rattle.std.specs.Prelude.{◌≡◌, slice_get, IfOk};
-ghost use Rattle.kdb_cmd.specs.Desk.{IsReady, IsSameDesk, Changes, Says};
-ghost use Rattle.kdb_cmd.specs.MacroLines.{goes_on, inner_meaning, inner_answer, inner_line, lines_in, macro_answer};
+ghost use Rattle.kdb_cmd.specs.Desk.{IsReady, IsSameDesk, Says};
+ghost use Rattle.kdb_cmd.specs.MacroLines.{goes_on, inner_answer, inner_line, lines_in, macro_answer};
 
 use crate::desk::Desk;
 use crate::line::first_word::first_word_of;
@@ -10,7 +10,6 @@ use crate::outcomes::stay;
 use crate::{Outcome, Said};
 use kdb_lex::{LexFault, Lexed, lex};
 use kdb_macro::Macros;
-use kdb_table::Refusal;
 use mach_base::{OutOfMemory, Peek, Text, push_bytes};
 use std::alloc::Global;
 
@@ -24,27 +23,16 @@ fn goes_on(outcome: Outcome) -> bool
     }
 }
 
-/// The words of a macro's line, which calls and begins no macro.
-#[tactic(auto, unfolding(crate::specs::MacroLines::inner_meaning))]
-fn inner_meaning<P: Peek>(desk: &mut Desk<P>, words: &[Text]) -> Result<Said, Refusal>
-    requires ready { IsReady P.memory desk.old }
-    ensures answer { Changes P.memory result desk.old desk.new (inner_meaning words.now) }
-    ensures ready { IsReady P.memory desk.new }
-    ensures same { IsSameDesk P.rest desk.old desk.new }
-{
-    let first_word = first_word_of(&desk.kdb.macros, words);
-    words_meaning(desk, first_word, words)
-}
-
-/// The words of a macro's line. A diagnostic changes nothing.
-#[tactic(auto, using(crate::proofs::Meant::says_from), unfolding(crate::specs::MacroLines::inner_answer))]
+/// The words of a macro's line, which calls and begins no macro. A diagnostic changes nothing.
+#[tactic(auto, using(crate::proofs::Meant::says_from), unfolding(crate::specs::MacroLines::inner_answer, crate::specs::MacroLines::inner_meaning))]
 fn inner_answer<P: Peek>(desk: &mut Desk<P>, words: &[Text]) -> Result<Said, OutOfMemory>
     requires ready { IsReady P.memory desk.old }
     ensures answer { Says P.memory result desk.old desk.new (inner_answer words.now) }
     ensures ready { IsReady P.memory desk.new }
     ensures same { IsSameDesk P.rest desk.old desk.new }
 {
-    let meant = inner_meaning(desk, words);
+    let first_word = first_word_of(&desk.kdb.macros, words);
+    let meant = words_meaning(desk, first_word, words);
     said_or_line(desk.alloc, words, meant)
 }
 

@@ -1,7 +1,7 @@
 ghost use Rattle.std.specs.Prelude.{◌≡◌, ◌<◌, ◌^◌, length};
 ghost use Rattle.kdb_table.specs.Refused.{Answers};
 ghost use Rattle.kdb_cmd.specs.Desk.{IsReady, IsSameDesk, Changes};
-ghost use Rattle.kdb_cmd.specs.Meanings.{display_text, command_answer, command_meaning, words_meaning};
+ghost use Rattle.kdb_cmd.specs.Meanings.{display_text, command_answer, words_meaning};
 
 use crate::command::memory_change::mm;
 use crate::command::registers::{rd, rm};
@@ -109,25 +109,8 @@ fn command_answer<P: Peek>(
     }
 }
 
-/// A command with its words: its arguments have their values first, where they are expressions.
-#[tactic(auto, unfolding(crate::specs::Meanings::command_meaning))]
-fn command_meaning<P: Peek>(
-    desk: &mut Desk<P>,
-    command: Command,
-    words: &[Text],
-) -> Result<Said, Refusal>
-    requires ready { IsReady P.memory desk.old }
-    ensures answer { Changes P.memory result desk.old desk.new (command_meaning command words.now) }
-    ensures ready { IsReady P.memory desk.new }
-    ensures same { IsSameDesk P.rest desk.old desk.new }
-{
-    let are_expressions = row_of(Entry::Run(command)).expressions();
-    let values = values_of(&desk.view(), words, are_expressions)?;
-    command_answer(desk, command, words, values)
-}
-
-/// Words that call no macro and begin none.
-#[tactic(auto, unfolding(crate::specs::Meanings::words_meaning))]
+/// Words that call no macro and begin none: a command's arguments have their values first, where they are expressions.
+#[tactic(auto, unfolding(crate::specs::Meanings::words_meaning, crate::specs::Meanings::command_meaning))]
 pub fn words_meaning<P: Peek>(
     desk: &mut Desk<P>,
     first_word: FirstWord,
@@ -140,7 +123,11 @@ pub fn words_meaning<P: Peek>(
 {
     match first_word {
         FirstWord::Nothing => Ok(silent(desk.alloc, Outcome::Stay)),
-        FirstWord::Command(command) => command_meaning(desk, command, words),
+        FirstWord::Command(command) => {
+            let are_expressions = row_of(Entry::Run(command)).expressions();
+            let values = values_of(&desk.view(), words, are_expressions)?;
+            command_answer(desk, command, words, values)
+        }
         FirstWord::Define | FirstWord::Macro(_) => Err(Refusal::Diagnosed(Diagnostic::NestedMacro)),
         FirstWord::WrongCount => Err(Refusal::Diagnosed(Diagnostic::WrongArguments)),
         FirstWord::Unknown => Err(Refusal::Diagnosed(Diagnostic::UnknownCommand)),
