@@ -39,9 +39,11 @@ pub record Call : Type 0 where
   pub entry : Option Entry
   pub answer : Answer
 
+-- the call that makes no entry, with this answer
 abbrev pub quietly : Answer → Call
 quietly a = record { entry = None; answer = a }
 
+-- the call that makes this entry, with this answer
 abbrev pub making : Entry → Answer → Call
 making e a = record { entry = Some e; answer = a }
 
@@ -80,6 +82,7 @@ lined_at p m (stage.Pass again) = lined.Pass (step_address p.machine m.0) again
 lined_at p m stage.Back = lined.Stay
 lined_at p m stage.Leaving = lined.Free (enabled_of p)
 
+-- what a line answers, by the session that it left, Stay without one
 abbrev pub lined_in : PlantedMachine → Option Sitting → Lined
 lined_in p None = lined.Stay
 lined_in p (Some s) = lined_at p s.master s.stage
@@ -89,6 +92,7 @@ abbrev pub passed_at : PlantedMachine → Stage → Passed
 passed_at p stage.Back = passed.Back
 passed_at p other = passed.Free (enabled_of p)
 
+-- what the step of a pass answers, by the session after it
 abbrev pub passed_in : PlantedMachine → Option Sitting → Passed
 passed_in p None = passed.Free (enabled_of p)
 passed_in p (Some s) = passed_at p s.stage
