@@ -50,6 +50,7 @@ is_slaves (phase.Parked gate) = true
 is_slaves (phase.Unmark gate) = true
 is_slaves _ = false
 
+-- whether a hart in this phase is the master, or wants to be, and makes a tick without a call
 abbrev pub is_masters_word : Phase → Bool
 is_masters_word phase.Wish = true
 is_masters_word phase.Want = true

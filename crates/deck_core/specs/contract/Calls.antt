@@ -31,6 +31,7 @@ abbrev pub in_stage : Stage → Option Sitting → Option Sitting
 in_stage to None = None
 in_stage to (Some sitting) = Some (record sitting { stage = to })
 
+-- whether the answer is Off
 abbrev pub is_off : Turned → Bool
 is_off turned.Off = true
 is_off _ = false
@@ -115,6 +116,7 @@ LineLeaves b (lined.Free enabled) after = (after ≡ line_read stage.Leaving b a
 LineLeaves b lined.Ended after = after ≡ record b { over = true }
 LineLeaves b lined.Lost after = Lost b after
 
+-- `line` leaves what its answer says; once an ending stands, it answers Ended and changes nothing
 abbrev pub LineGives : Told → Lined → Told → Type 0
 LineGives b answer after = Gives b.over ((answer ≡ lined.Ended) × (after ≡ b)) (LineLeaves b answer after)
 
@@ -137,6 +139,7 @@ PassLeaves h b (passed.Free enabled) after =
     ((has_bit b.faults h ≡ false) × (in_session (λ s. is_again s.stage) b.session ≡ false))
     × ((enabled ≡ b.enabled) × (after ≡ executed stage.Leaving b after))
 
+-- `pass_step` of h leaves what its answer says; once an ending stands, it answers Free of no place and changes nothing
 abbrev pub PassGives : ℕ → Told → Passed → Told → Type 0
 PassGives h b answer after =
     Gives b.over ((answer ≡ passed.Free 0) × (after ≡ b)) (PassLeaves h b answer after)
