@@ -82,7 +82,7 @@ what_name SourceBytes = codes "sourcebytes"
 what_name ElfBytes = codes "elfbytes"
 what_name FileBytes = codes "filebytes"
 
--- what stands behind `kdbsim: ` in the line of a status
+-- what stands after `kdbsim: ` in the line of a status
 unfoldable pub words_of_status : Status → List ℕ
 words_of_status (Done ending) = []
 words_of_status Made = []
