@@ -75,8 +75,7 @@ openings gate = gate / 2 - 1
 abbrev pub bit : Bool → ℕ
 bit b = if b then 1 else 0
 
--- what a phase of the master keeps is in range: the hart that is called or looked at is another one of the harts; there
--- are rounds left; the late harts are others; there is a place left to be pulled or planted
+-- hart k is one of the harts, and not the master
 pub record IsOther (harts : ℕ) (master : ℕ) (k : ℕ) : Type 0 where
   pub below : k < harts
   pub other : (master == suc k) ≡ false
@@ -103,7 +102,8 @@ abbrev pub ThenFits : Then → Type 0
 ThenFits follow.Enter = Unit {0}
 ThenFits (follow.Plant left) = left < 2 ^ PLACES
 
--- what a phase of the master keeps is in range
+-- what a phase of the master keeps is in range: the hart that is called or looked at is another one of the harts; there
+-- are rounds left; the late harts are others; there is a place left to be pulled or planted
 abbrev pub KeepsInRange : ℕ → ℕ → ℕ → Phase → Type 0
 KeepsInRange limit harts master (phase.Send to) = IsOther harts master to
 KeepsInRange limit harts master (phase.Gather looks) = LooksFit limit harts master looks
