@@ -148,12 +148,12 @@ CountsItsMemory =
     ((source_of text ≡ Err (TooLarge Segments size)) ↔ ((length text ≤ SOURCE_BYTES) × HaveManySegments (lines_of text) size)) ×
     ((source_of text ≡ Err (TooLarge Memory size)) ↔ ((length text ≤ SOURCE_BYTES) × HaveMuchMemory (lines_of text) size))
 
--- the address behind the bytes of a part
+-- the address after the bytes of a part
 abbrev pub running_place : Option Part → Option ℕ
 running_place None = None
 running_place (Some p) = Some (p.segment.base + length p.bytes)
 
--- behind lines that are right the place is where the next byte of the last segment stands
+-- after lines that are right the place is where the next byte of the last segment stands
 abbrev pub PlacesAreRunning : Type 0
 PlacesAreRunning =
     (labels : Labels) (ls : List (List ℕ)) (es : List Entry) → Reads labels 2 None ls es → AreAllowed [] es → place_behind None ls ≡ running_place (last_part (parts_in es))

@@ -45,5 +45,6 @@ is_given_at (Some there) number = there.line == number
 abbrev pub labels_in : List (Vec ℕ Global × Given) → Labels
 labels_in entries = map (λ e. (e.0.items, e.1)) entries
 
+-- the labels of a table of names, in its order
 abbrev pub table_labels : {S : Type 0} → IndexMap (Vec ℕ Global) Given S → Labels
 table_labels table = labels_in table.entries

@@ -104,7 +104,7 @@ fn push_distance(out: &mut Vec<u8>, from: u64, to: u64) -> Result<(), OutOfMemor
     Ok(())
 }
 
-/// Where the last word of a line starts: behind its last blank.
+/// Where the last word of a line starts: after its last blank.
 fn last_word_start(line: &[u8]) -> usize
     ensures within { result ≤ length line.now }
     ensures split { last_split line.now ≡ (take result line.now, drop result line.now) }

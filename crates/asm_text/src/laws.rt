@@ -19,7 +19,7 @@ pub fn a_source_counts_its_memory()
     ensures { CountsItsMemory }
 {}
 
-/// Behind lines that are right the place is the base of the last segment and as many bytes as were put into it, and there is
+/// After lines that are right the place is the base of the last segment and as many bytes as were put into it, and there is
 /// none before any segment: so a label means the address at which the next byte is put.
 pub fn a_place_is_where_the_next_byte_stands()
     ensures { PlacesAreRunning }

@@ -11,7 +11,7 @@ abbrev pub is_empty : List ℕ → Bool
 is_empty [] = true
 is_empty (x ∷ xs) = false
 
--- one more number behind the others
+-- one more number after the others
 joined_more : (xs : List ℕ) (h : ℕ) → numbers_text (xs ++ h ∷ []) ≡ numbers_text xs ++ number_text (is_empty xs) h
 joined_more [] h = refl
 joined_more (x ∷ []) h = refl

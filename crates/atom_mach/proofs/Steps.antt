@@ -64,7 +64,7 @@ late_none true late h e =
     let none : late ≡ 0 = search rules in
     false≢true (sym (none_has 0) ∙ rw none at e)
 
--- with nobody late hart 0 runs in the free machine alone
+-- with no late hart, hart 0 runs in the free machine alone
 runs_alone : (mode : Mode) (opened : Bool) → IsTrue (is_alone mode) → runs mode opened 0 ≡ true → mode ≡ Free
 runs_alone Free opened h e = refl
 runs_alone (Hold m late) opened h e = absurd (false≢true h)

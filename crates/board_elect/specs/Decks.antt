@@ -24,9 +24,10 @@ pub record SameBoard {B : Type 0} (table table2 : TableId) (pass pass2 : Pass B)
   pub starts : start_of pass ≡ start_of pass2
   pub made : pass.stand.made ≡ pass2.stand.made
 
--- every pass is of its board, and so are passes of one board in a row
+-- every pass is of its own board
 abbrev pub same_board : {B : Type 0} (table : TableId) (pass : Pass B) → SameBoard table table pass pass
 same_board table pass = record { tables = refl; starts = refl; made = refl }
 
+-- where each of three passes is of the board of the one before, the last is of that of the first
 abbrev pub same_boards : {B : Type 0} (table table2 table3 : TableId) (pass pass2 pass3 : Pass B) → SameBoard table table2 pass pass2 → SameBoard table2 table3 pass2 pass3 → SameBoard table table3 pass pass3
 same_boards table table2 table3 pass pass2 pass3 x y = record { tables = x.tables ∙ y.tables; starts = x.starts ∙ y.starts; made = x.made ∙ y.made }

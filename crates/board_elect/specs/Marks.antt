@@ -5,6 +5,7 @@ use Rattle.board_elect.specs.Plays.{is_counted}
 use Rattle.board_elect.specs.declared.found.Mark.{Mark}
 use Rattle.board_elect.specs.declared.found.Mark.TheVariants as found
 
+-- whether the look found a mark that counts
 abbrev pub is_marked : Mark → Bool
 is_marked found.Marked = true
 is_marked (found.Not seen) = false

@@ -23,27 +23,35 @@ is_counted at word = (word == 1) || (word == at.gate)
 abbrev pub after_want : ℕ → Standing → Standing
 after_want n at = to_phase phase.Want at
 
+-- after the compare and exchange of the master word
 abbrev pub after_try : ℕ → Standing → Standing
 after_try n at = to_phase (if n == 0 then phase.Own else phase.Want) at
 
+-- after the store of 0 to its own word
 abbrev pub after_clearing : ℕ → Standing → Standing
 after_clearing n at = to_phase (after_clear at.phase) at
 
+-- after the store of 0 to the master word
 abbrev pub after_freeing : ℕ → Standing → Standing
 after_freeing n at = to_phase phase.Run at
 
+-- after the shutting of the gate, whose new number the hart keeps
 abbrev pub after_shutting : ℕ → Standing → Standing
 after_shutting n at = record at { phase = after_shut at.harts at.hart.0; gate = suc n }
 
+-- after a look at the word of the next hart
 abbrev pub after_looking : ℕ → Standing → Standing
 after_looking n at = to_phase (after_look at.limit at.harts at.hart.0 (looks_in at.phase) (is_counted at n)) at
 
+-- after the opening of the gate
 abbrev pub after_opening : ℕ → Standing → Standing
 after_opening n at = to_phase phase.Drop at
 
+-- after the load of the gate's number
 abbrev pub after_seeing : ℕ → Standing → Standing
 after_seeing n at = to_phase (after_gate at.phase n) at
 
+-- after the store of a mark to its own word
 abbrev pub after_marking : ℕ → Standing → Standing
 after_marking n at = to_phase (phase.Parked n) at
 

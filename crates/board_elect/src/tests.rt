@@ -115,7 +115,7 @@ fn rows_that_hold<B: Bus>(
     rows.len()
 }
 
-/// An old mark doesn't count, and nobody is late: both sessions, to the end.
+/// An old mark doesn't count, and there is no late hart: both sessions, to the end.
 #[test]
 fn an_old_mark_does_not_count(rt: HostRuntime) -> Result<(), Fail> {
     let Seated { board, first } = Board::new(rt.alloc(), small_bus(1), 2)?;

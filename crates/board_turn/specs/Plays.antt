@@ -20,6 +20,7 @@ use Rattle.board_turn.specs.Rule.{IsOrigin}
 abbrev pub moved_to : {B : Type 0} → Standing → View B → View B
 moved_to at v = record v { at = at }
 
+-- where the hart stands, at another place in its transaction
 abbrev pub at_place : Place → Standing → Standing
 at_place to at = record at { place = to }
 
@@ -35,10 +36,11 @@ after_call a at = record at { phase = after_answer at.harts at.hart.0 at.phase a
 abbrev pub taken : {B : Type 0} → Told → View B → View B
 taken b v = record v { at = at_place place.Give v.at; mask = b.mask; notes = notes_in b; stored = [] }
 
--- a seat that has stored these notes; one of hart 0 to which the seats from this one on were joined
+-- a seat that has stored these notes
 abbrev pub with_stored : {B : Type 0} → List ℕ → Me (Option (Slot B)) (View B) → Me (Option (Slot B)) (View B)
 with_stored notes me = (record me.0 { stored = notes }, me.1)
 
+-- a seat of hart 0 to which the seats from this one on were joined
 abbrev pub with_left : {B : Type 0} → ℕ → Me (Option (Slot B)) (View B) → Me (Option (Slot B)) (View B)
 with_left left me = (record me.0 { left = left }, me.1)
 
@@ -46,6 +48,7 @@ with_left left me = (record me.0 { left = left }, me.1)
 abbrev pub note_now : {B : Type 0} → View B → ℕ → ℕ
 note_now v k = slice_index_or v.stored k (note (view_told v) k)
 
+-- the answer that a slot has, Send without a slot
 abbrev pub answer_in : {B : Type 0} → Option (Slot B) → Answer
 answer_in None = answer.Send
 answer_in (Some slot) = slot.last

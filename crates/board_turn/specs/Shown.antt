@@ -14,7 +14,7 @@ use Rattle.board_turn.specs.declared.words.TheConstants.{TURN, MASTER, GATE, OWN
 abbrev pub word : List ℕ → ℕ → ℕ
 word words i = slice_index_or words i 0
 
--- the notes in what a bus tells, and the k-th of their words
+-- the notes in what a bus tells
 abbrev pub notes_in : Told → Notes
 notes_in b = record {
   planted = b.planted;
@@ -31,6 +31,7 @@ notes_in b = record {
   plantable = b.plantable;
 }
 
+-- the k-th word of the notes in what a bus tells
 unfoldable pub note : Told → ℕ → ℕ
 note b k = slice_index_or (note_words (notes_in b)) k 0
 
@@ -46,6 +47,7 @@ standing_of h harts rounds made = record {
   made = made;
 }
 
+-- the notes of a view that never held the turn: no places, no session, nothing counted
 abbrev pub no_notes : Notes
 no_notes = record {
   planted = 0;
@@ -74,6 +76,7 @@ blank_view = record {
   stored = [];
 }
 
+-- the view of hart k, a blank one where there is none
 abbrev pub view_of : {B : Type 0} → List (View B) → ℕ → View B
 view_of views k = slice_index_or views k blank_view
 
@@ -89,10 +92,11 @@ first_view start harts rounds = record {
   stored = [];
 }
 
--- hart 0's view after the making of one more seat, and the view of that seat
+-- hart 0's view after the making of one more seat
 abbrev pub one_more : {B : Type 0} → View B → View B
 one_more v = record v { at = record v.at { made = v.at.made + 1 }; left = v.left + 1 }
 
+-- the view of the seat that hart 0 makes next, before its first tick
 abbrev pub next_view : {B : Type 0} → View B → View B
 next_view v = record v { at = standing_of v.at.made v.at.harts v.at.limit 0; left = 0 }
 

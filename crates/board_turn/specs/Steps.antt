@@ -28,7 +28,7 @@ PeekIsTick B =
     → shown rounds (slice_set words TURN (word words TURN)) (slice_set views h (moved_to (after_peek (word words TURN) v.at) v)) b
     ≡ tick h a after (shown rounds words views b)
 
--- the compare and exchange of the turn word, where it is the one that was seen, and where it isn't
+-- the compare and exchange of the turn word where it is the one that was seen: the hart takes the turn
 abbrev pub TakeIsTick : Type 0 → Type 0
 TakeIsTick B =
     (rounds : ℕ) (words : List ℕ) (views : List (View B)) (b : Told) (h : ℕ) (v : View B) (a : Answer) (after : Told)
@@ -36,6 +36,7 @@ TakeIsTick B =
     → shown rounds (slice_set words TURN (turn_word (mask_of (word words TURN)) (suc h))) (slice_set views h (taken b v)) b
     ≡ tick h a after (shown rounds words views b)
 
+-- the compare and exchange of the turn word where it isn't the one that was seen: nothing is written
 abbrev pub MissIsTick : Type 0 → Type 0
 MissIsTick B =
     (rounds : ℕ) (words : List ℕ) (views : List (View B)) (b : Told) (h : ℕ) (v : View B) (seen : ℕ) (a : Answer) (after : Told)

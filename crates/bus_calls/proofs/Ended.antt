@@ -1,4 +1,4 @@
--- An ending stays, and only a line meets want of memory.
+-- An ending stays, and only a line runs out of memory.
 use Rattle.std.proofs.Common.{◌≡◌, ℕ, ◌||◌, Bool, true, false, cond, Option, Some, None, is_some, refl, sym, ap, ◌∙◌}
 use Rattle.std.proofs.lemmas.Bool.{false≢true}
 use Rattle.mach_base.specs.declared.event.Ending.{Ending}

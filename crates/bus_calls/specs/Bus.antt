@@ -16,7 +16,7 @@ counted_of b = counted_with b.core b.sends b.stepped b.released
 abbrev pub ending_of : CoreBus → Option Ending
 ending_of b = if b.core.lost then None else (core.machine_of b.core).ending
 
--- whether an ending stands, or a line met want of memory: no entry is made then
+-- whether an ending stands, or a line ran out of memory: no entry is made then
 abbrev pub is_over : CoreBus → Bool
 is_over b = b.core.lost || is_some (core.machine_of b.core).ending
 

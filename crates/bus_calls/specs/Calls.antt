@@ -39,9 +39,11 @@ pub record Call : Type 0 where
   pub entry : Option Entry
   pub answer : Answer
 
+-- the call that makes no entry, with this answer
 abbrev pub quietly : Answer → Call
 quietly a = record { entry = None; answer = a }
 
+-- the call that makes this entry, with this answer
 abbrev pub making : Entry → Answer → Call
 making e a = record { entry = Some e; answer = a }
 
@@ -80,6 +82,7 @@ lined_at p m (stage.Pass again) = lined.Pass (step_address p.machine m.0) again
 lined_at p m stage.Back = lined.Stay
 lined_at p m stage.Leaving = lined.Free (enabled_of p)
 
+-- what a line answers, by the session that it left, Stay without one
 abbrev pub lined_in : PlantedMachine → Option Sitting → Lined
 lined_in p None = lined.Stay
 lined_in p (Some s) = lined_at p s.master s.stage
@@ -89,6 +92,7 @@ abbrev pub passed_at : PlantedMachine → Stage → Passed
 passed_at p stage.Back = passed.Back
 passed_at p other = passed.Free (enabled_of p)
 
+-- what the step of a pass answers, by the session after it
 abbrev pub passed_in : PlantedMachine → Option Sitting → Passed
 passed_in p None = passed.Free (enabled_of p)
 passed_in p (Some s) = passed_at p s.stage
@@ -111,7 +115,7 @@ call_of (act.PassStep h) p =
     if faults p h.0 then quietly (answer.PassStep passed.Faulted)
     else making (entry.Step h) (answer.PassStep (passed_in (effect p (entry.Step h)).next (effect p (entry.Step h)).next.session))
 
--- what a call answers once an ending stands or a line met want of memory
+-- what a call answers once an ending stands or a line ran out of memory
 abbrev pub answer_over : Act → Answer
 answer_over (act.HartStep h) = answer.HartStep turned.Off
 answer_over (act.Check h) = answer.Check None
@@ -158,7 +162,7 @@ abbrev pub IsMade : Option Entry → CoreBus → CoreBus → Type 0
 IsMade None a b = IsLeft false a b
 IsMade (Some e) a b = IsMadeBy e a b
 
--- a line met want of memory: the core is lost with its journal as it was, and the calls sent, the mask and the lines read
+-- a line ran out of memory: the core is lost with its journal as it was, and the calls sent, the mask and the lines read
 -- are those that they were
 pub record IsLost (a b : CoreBus) : Type 0 where
   pub lost : b.core.lost ≡ true
@@ -167,7 +171,7 @@ pub record IsLost (a b : CoreBus) : Type 0 where
   pub stood : b.stood ≡ record { mask = mask_of a.released (machine_of a.core); lines = (machine_of a.core).machine.lines_read }
 
 -- What a call does to the bus, and what it answers: after the end nothing but that a closing takes the mask away; before it
--- the entry and the answer of the call, unless a line met want of memory.
+-- the entry and the answer of the call, unless a line ran out of memory.
 pub record Does (a : Act) (before : CoreBus) (result : Answer) (after : CoreBus) : Type 0 where
   pub over : is_over before ≡ true → (result ≡ answer_over a) × IsLeft (is_close a) before after
   pub going : is_over before ≡ false → is_lost_line result ≡ false → (result ≡ (call_of a (machine_of before.core)).answer) × IsMade (call_of a (machine_of before.core)).entry before after

@@ -14,7 +14,7 @@ either_false : (b : Bool) → b ≡ (b || false)
 either_false true = refl
 either_false false = refl
 
--- an ending counts as standing where one stands, and where a line met want of memory
+-- an ending counts as standing where one stands, and where a line ran out of memory
 pub over_is : (b : CoreBus) → (told b).over ≡ (is_some (ending_of b) || b.core.lost)
 unfolding told told_of
 over_is b = by_lost b.core.lost

@@ -104,7 +104,7 @@ impl CoreBus {
         self.core
     }
 
-    /// Whether an ending stands, or a line met want of memory.
+    /// Whether an ending stands, or a line ran out of memory.
     pub fn is_over(&self) -> bool
         ensures { result ≡ is_over self.now }
     {

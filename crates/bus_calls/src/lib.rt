@@ -2,7 +2,7 @@
 //!
 //! - A *call* is what one hart asks of the bus while it holds the turn. It makes one entry of the core or none
 //!   (`call_of` of specs/Calls.antt), and answers.
-//! - *Over* is a bus once an ending stands or a line met want of memory: no call makes an entry then.
+//! - *Over* is a bus once an ending stands or a line ran out of memory: no call makes an entry then.
 //! - The *room* for the journal and for the transcript is reserved at the start, and room for text again after each line, so
 //!   that no call but a line lacks memory.
 //!

@@ -23,10 +23,11 @@ entries_of c = c.journal.entries
 abbrev pub text_of : Core → List ℕ
 text_of c = c.transcript.items
 
--- how many bytes more the journal has room for, and the transcript
+-- how many bytes more the journal has room for
 abbrev pub journal_room : Core → ℕ
 journal_room c = c.journal.spare
 
+-- how many bytes more the transcript has room for
 abbrev pub text_room : Core → ℕ
 text_room c = vec_capacity c.transcript - vec_len c.transcript
 

@@ -5,7 +5,7 @@
 //! - The *journal* is the list of the entries that were made, the *transcript* all that they printed.
 //! - An *origin* is what a machine starts from: an image, symbols, a script, a number of harts and a limit of steps. The
 //!   journal of a core is a legal list from some origin, and leads to the core's machine and transcript.
-//! - A core is *lost* once a line, or the prompt at the script's end, met want of memory. Nothing is claimed then but its
+//! - A core is *lost* once a line, or the prompt at the script's end, ran out of memory. Nothing is claimed then but its
 //!   journal.
 //!
 //! The files go from the machine from the inside (`inner` and its folder: what is seen of it, which entries are legal, how

@@ -150,7 +150,7 @@ impl Core {
         Ok(())
     }
 
-    /// Makes a legal entry that prints a prompt. After want of memory the core is lost.
+    /// Makes a legal entry that prints a prompt. Once memory has run out the core is lost.
     fn apply_spoken(&mut self, entry: Entry) -> Result<(), OutOfMemory>
         requires here { self.old.lost ≡ false }
         requires legal { is_legal (machine_of self.old) entry ≡ true }
@@ -200,7 +200,7 @@ impl Core {
         self.inner.ending
     }
 
-    /// Whether a line, or the script's end, met want of memory. It stays true.
+    /// Whether a line, or the script's end, ran out of memory. It stays true.
     pub fn lost(&self) -> bool
         ensures { result ≡ self.now.lost }
     {

@@ -187,7 +187,7 @@ line_frees c h kept enabled after s e held w g same fits =
     (λ f read. planting_from_none (suc h) c.gate kept 0 enabled (line_read stage.Leaving c.told after) f.planted same f.step read
     (λ lead late fit more. session_in (suc h) (phase.Lines kept) lead c.told.faults after.faults c.told.session stage.Leaving refl late fit f.session) z refl)
 
--- no line was left, or the line met want of memory: an ending stands
+-- no line was left, or the line ran out of memory: an ending stands
 line_ends : (c : Configuration) (h : ℕ) (kept : Kept) (after : Told) → Sound c → c.phase h ≡ phase.Lines kept → holds (c.place h) ≡ true → IsTold after → Lost c.told after → Sound (gives h (phase.Close kept) after c)
 line_ends c h kept after s e held fits g =
     let i : Mine c h (phase.Lines kept) = mine c h (phase.Lines kept) s e refl in

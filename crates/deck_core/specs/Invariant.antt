@@ -71,25 +71,28 @@ pub record MarkFits (harts : ℕ) (mask : ℕ) (gate : ℕ) (master : ℕ) (lead
 abbrev pub openings : ℕ → ℕ
 openings gate = gate / 2 - 1
 
+-- the truth value as a number: 1 where it is true, else 0
 abbrev pub bit : Bool → ℕ
 bit b = if b then 1 else 0
 
--- what a phase of the master keeps is in range: the hart that is called or looked at is another one of the harts; there
--- are rounds left; the late harts are others; there is a place left to be pulled or planted
+-- hart k is one of the harts, and not the master
 pub record IsOther (harts : ℕ) (master : ℕ) (k : ℕ) : Type 0 where
   pub below : k < harts
   pub other : (master == suc k) ≡ false
 
+-- the looks of a gathering are in range: the next hart is another, a round is left, the gathered harts are others
 pub record LooksFit (limit : ℕ) (harts : ℕ) (master : ℕ) (looks : Looks) : Type 0 where
   pub next : IsOther harts master looks.next
   pub rounds : looks.rounds < limit
   pub gathered : looks.gathered < 2 ^ harts
   pub others : (k : ℕ) → has_bit looks.gathered k ≡ true → (master == suc k) ≡ false
 
+-- the late harts are a mask of harts, without the master
 pub record LateFits (harts : ℕ) (master : ℕ) (late : ℕ) : Type 0 where
   pub below : late < 2 ^ harts
   pub others : (k : ℕ) → has_bit late k ≡ true → (master == suc k) ≡ false
 
+-- there is a place left, and the mask has places alone
 pub record LeftFits (left : ℕ) : Type 0 where
   pub some : 0 < left
   pub places : left < 2 ^ PLACES
@@ -99,6 +102,8 @@ abbrev pub ThenFits : Then → Type 0
 ThenFits follow.Enter = Unit {0}
 ThenFits (follow.Plant left) = left < 2 ^ PLACES
 
+-- what a phase of the master keeps is in range: the hart that is called or looked at is another one of the harts; there
+-- are rounds left; the late harts are others; there is a place left to be pulled or planted
 abbrev pub KeepsInRange : ℕ → ℕ → ℕ → Phase → Type 0
 KeepsInRange limit harts master (phase.Send to) = IsOther harts master to
 KeepsInRange limit harts master (phase.Gather looks) = LooksFit limit harts master looks
@@ -136,6 +141,7 @@ pub record IsPlanting (planted : ℕ) (enabled : ℕ) (left : ℕ) : Type 0 wher
   pub wanted : (k : ℕ) → has_bit left k ≡ true → has_bit enabled k ≡ true
   pub others : (k : ℕ) → has_bit planted k ≡ (has_bit enabled k && not (has_bit left k))
 
+-- where the session is left after the step word's removal, each enabled place is still to be planted
 abbrev pub ThenPlants : ℕ → Then → Type 0
 ThenPlants enabled follow.Enter = Unit {0}
 ThenPlants enabled (follow.Plant left) = left ≡ enabled
@@ -201,6 +207,7 @@ pub record LeadFits (limit : ℕ) (master : ℕ) (gate : ℕ) (lead : Phase) (b 
 
 -- ---- the whole
 
+-- the configuration meets the invariant, which the head of this file says in words
 pub record Sound (c : Configuration) : Type 0 where
   pub limit : 0 < c.limit
   pub told : IsTold c.told

@@ -32,7 +32,7 @@ map_text-append (s ∷ ss) ts = ap (λ ys. symbol_line s ++ ys) (map_text-append
     joined : (a b c : List ℕ) → a ++ (b ++ c) ≡ (a ++ b) ++ c
     joined a b c = simp append_assoc
 
--- the text of one symbol, or of none, behind another
+-- the text of one symbol, or of none, after another
 pub no_line : (o : Option MapSymbol) (xs : List ℕ) → o ≡ None → xs ≡ xs ++ map_text (option_to_list o)
 unfolding map_text
 no_line o xs none = rw (none, append_nil xs) refl

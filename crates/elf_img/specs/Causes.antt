@@ -18,7 +18,7 @@ IsFirst (Bad why) causes = first_fault causes ≡ Some (Bad why)
 IsFirst (TooLarge what size) causes = first_fault causes ≡ Some (TooLarge what size)
 IsFirst OutOfMemory causes = Unit {0}
 
--- a call answers only where no cause is so, and refuses for the first one, or for want of memory
+-- a call answers only where no cause is so, and refuses for the first one, or for lack of memory
 abbrev pub Passes : {A : Type 0} → Result A ElfFault → List Cause → Type 0
 Passes (Ok x) causes = first_fault causes ≡ None
 Passes (Err fault) causes = IsFirst fault causes

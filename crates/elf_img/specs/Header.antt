@@ -11,17 +11,19 @@ use Rattle.elf_img.specs.Causes.{Cause}
 abbrev pub entry : List ℕ → ℕ
 entry file = double_at file 24
 
--- e_phoff and e_phnum: where the program headers begin, and how many there are
+-- e_phoff: where the program headers begin
 abbrev pub program_offset : List ℕ → ℕ
 program_offset file = double_at file 32
 
+-- e_phnum: the number of program headers
 abbrev pub program_count : List ℕ → ℕ
 program_count file = half_at file 56
 
--- e_shoff and e_shnum: the same of the section headers
+-- e_shoff: where the section headers begin
 abbrev pub section_offset : List ℕ → ℕ
 section_offset file = double_at file 40
 
+-- e_shnum: the number of section headers
 abbrev pub section_count : List ℕ → ℕ
 section_count file = half_at file 60
 

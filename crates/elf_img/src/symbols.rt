@@ -22,7 +22,7 @@ use std::alloc::Global;
 /// The bytes of an entry of a symbol table.
 const ENTRY_SIZE: usize = 24;
 
-/// The bytes in which a name has to end: the longest name, and the 0 behind it.
+/// The bytes in which a name has to end: the longest name, and the 0 after it.
 const NAME_RANGE: usize = 256;
 
 /// The symbols of a table, counted, and the bytes of their lines.
@@ -99,7 +99,7 @@ fn sizes_of(table: &SymbolTable<'_>) -> Sizes
     sizes
 }
 
-/// How many entries the table has; bytes behind its last whole entry mean nothing.
+/// How many entries the table has; bytes after its last whole entry mean nothing.
 fn entry_count(table: &SymbolTable<'_>) -> usize
     ensures { result ≡ length table.now.entries / 24 }
 {

@@ -25,6 +25,7 @@ word_line words = codes "w" ++ flat_map word_text words ++ newline
 abbrev pub first_words : List ℕ
 first_words = 0x000025b7 ∷ 0x3e800613 ∷ 0x00100693 ∷ 0x08d5b72f ∷ 0xfe071ee3 ∷ 0x0085b783 ∷ 0x00178793 ∷ 0x00f5b423 ∷ []
 
+-- the program's next eight words
 abbrev pub second_words : List ℕ
 second_words = 0x0005b023 ∷ 0xfff60613 ∷ 0xfe0612e3 ∷ 0x01058813 ∷ 0x00d8302f ∷ 0x00200893 ∷ 0x00000073 ∷ 0x00051a63 ∷ []
 

@@ -41,8 +41,7 @@ pub record SameNumbers (before : Seat) (after : Seat) : Type 0 where
 abbrev pub calls_now : Seat → Bool
 calls_now seat = is_transaction seat.phase && holds seat.place
 
--- the phases in which a hart that was called makes a tick, and those in which one that is to be the master, or is it, makes
--- one without a call
+-- whether a hart in this phase is on its way from a call to its mark and back
 abbrev pub is_slaves : Phase → Bool
 is_slaves phase.Called = true
 is_slaves (phase.Mark gate) = true
@@ -50,6 +49,7 @@ is_slaves (phase.Parked gate) = true
 is_slaves (phase.Unmark gate) = true
 is_slaves _ = false
 
+-- whether a hart in this phase is the master, or wants to be, and makes a tick without a call
 abbrev pub is_masters_word : Phase → Bool
 is_masters_word phase.Wish = true
 is_masters_word phase.Want = true

@@ -27,6 +27,7 @@ finds_word (phase.Parked at) c = not (c.gate == at)
 finds_word (phase.Gather looks) c = mark_counts c looks.next
 finds_word _ c = true
 
+-- whether the hart can go on with what its tick finds
 abbrev pub finds : Seat → Configuration → Bool
 finds seat c = if is_transaction seat.phase then finds_turn seat seat.place c else finds_word seat.phase c
 
@@ -36,6 +37,7 @@ answered (answer.HartStep turned.Off) = progress.Finished
 answered (answer.HartStep turned.Idle) = progress.Waits
 answered _ = progress.Again
 
+-- the progress of a hart that goes on where it has found what it needs, and else waits
 abbrev pub found_or_waits : Bool → Progress
 found_or_waits found = if found then progress.Again else progress.Waits
 
@@ -58,6 +60,7 @@ abbrev pub progress_of : Seat → Bool → Answer → Progress
 progress_of seat found a =
     if is_transaction seat.phase then turn_progress seat.place found a else word_progress seat.phase found
 
+-- whether the hart is finished
 abbrev pub is_done : Progress → Bool
 is_done progress.Finished = true
 is_done _ = false

@@ -324,7 +324,7 @@ header-first =
     let one : dec_text 1 ≡ 49 ∷ [] = decimal_digit 1 (omega arith) in
     ap is_header (words_of-line (codes "kimg") (1 ∷ []) some (Solid-test (codes "kimg") refl) (fits, tt)) ∙ ap (λ w. is_header (codes "kimg" ∷ w ∷ [])) one
 
--- behind the last line
+-- after the last line
 lines_over : (number : ℕ) (draft : Draft) → read_lines number draft (lines_of []) ≡ whole_image number (reverse draft.parts) draft.pcs draft.sps
 unfolding lines_of read_lines
 lines_over number draft = refl

@@ -19,7 +19,7 @@ append_nil : {A : Type 0} (xs : List A) → xs ++ [] ≡ xs
 append_nil [] = refl
 append_nil (x ∷ xs) = ap (λ ys. x ∷ ys) (append_nil xs)
 
--- one more segment behind those of the parts before
+-- one more segment after those of the parts before
 segments_of-latest : (p : Part) (ps : List Part) → segments_of (reverse (p ∷ ps)) ≡ segments_of (reverse ps) ++ p.segment ∷ []
 segments_of-latest p ps = ap segments_of (reverse-cons p ps) ∙ map-append (λ (q : Part). q.segment) (reverse ps) (p ∷ [])
 

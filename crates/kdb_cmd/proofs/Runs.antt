@@ -35,6 +35,6 @@ taken_all lines i out is so_far =
       | inr end ↦ so_far ∙ take_all i lines end.0
     ]
 
--- an answer behind what was printed before
+-- an answer after what was printed before
 abbrev pub behind : List ℕ → Answer → Answer
 behind out answer = record answer { output = out ++ answer.output }

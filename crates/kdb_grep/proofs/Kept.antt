@@ -33,7 +33,7 @@ cut line rest is = slice_split_at (λ b. eqb b 10) line 10 rest (no_feed line is
 alone : (line : List ℕ) → IsLine line → slice_split (λ b. eqb b 10) line ≡ line ∷ []
 alone line is = slice_split_none (λ b. eqb b 10) line (no_feed line is)
 
--- what is kept of a line and of parts behind it
+-- what is kept of a line and of parts after it
 kept-cons : (p : Pattern) (line : List ℕ) (parts : List (List ℕ)) (n : ℕ) → length parts ≡ n + 1 → kept_of p (line ∷ parts) ≡ cond (matches p line) (line ++ newline) [] ++ kept_of p parts
 kept-cons p line [] n size = absurd (omega arith)
 kept-cons p line (next ∷ rest) n size = refl

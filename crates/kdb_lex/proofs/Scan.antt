@@ -1,4 +1,4 @@
--- The marks of a line read from left to right: the words so far, and what stands before and behind the first pipe.
+-- The marks of a line read from left to right: the words so far, and what stands before and after the first pipe.
 use Rattle.std.proofs.Common.{◌≡◌, ℕ, suc, ◌+◌, Bool, true, false, cond, not, eqb, List, [], ◌∷◌, ◌++◌, map, filter, length, get_or, take, drop, Option, Some, None, unwrap_or, refl, sym, ap, ◌∙◌, append_assoc, add-one, drop-cons, arith, ◌<◌}
 use Rattle.std.proofs.lemmas.List.{append-nil}
 use Rattle.std.specs.Option.{option_to_list}
@@ -58,7 +58,7 @@ abbrev pub before : List Mark → List Mark
 before [] = []
 before (m ∷ ms) = cond (is_pipe m) [] (m ∷ before ms)
 
--- the marks behind the first pipe
+-- the marks after the first pipe
 abbrev pub after : List Mark → List Mark
 after [] = []
 after (m ∷ ms) = cond (is_pipe m) ms (after ms)

@@ -146,7 +146,7 @@ not_both law files kind name v s is a b = right_not_refused law kind a.bytes v s
 one_refusal : TextsMeanOneThing → (files : FileMap) (kind : Kind) (name : List ℕ) (s t : Status) → IsRefusal s → IsRefusal t → IsRefused (Some files) kind name s → IsRefused (Some files) kind name t → s ≡ t
 one_refusal law files kind name s t is it a b = same_refusal law kind a.bytes s t is it a.refused (subst (λ bytes. Refuses kind bytes t) (b.told ∙ sym a.told) b.refused)
 
--- a refusal is no failure of the shelf and no want of memory
+-- a refusal is no failure of the shelf and no lack of memory
 pub refused_by : (files : Option FileMap) (kind : Kind) (name : List ℕ) (before after : ℕ) (s : Status) → IsRefusal s → FailsAtFile files kind name before after s → IsRefused files kind name s
 refused_by files kind name before after s is (inl h) = absurd (subst IsRefusal h.0 is)
 refused_by files kind name before after s is (inr (inl h)) = h

@@ -30,6 +30,7 @@ code_of OutOfMemory = 12
 code_of (BadSource line) = 14
 code_of (BadElf why) = 15
 
+-- the word for a file by its kind, in the line of a status
 abbrev pub file_name : File → List ℕ
 file_name Image = codes "image"
 file_name Map = codes "map"
@@ -39,6 +40,7 @@ file_name Journal = codes "journal"
 file_name Source = codes "source"
 file_name Elf = codes "elf"
 
+-- the word for what is wrong with a line of an image
 abbrev pub why_name : Why → List ℕ
 why_name Header = codes "header"
 why_name Word = codes "word"
@@ -49,6 +51,7 @@ why_name Overrun = codes "overrun"
 why_name Hart = codes "hart"
 why_name NoText = codes "notext"
 
+-- the word for what is wrong with an executable
 abbrev pub elf_why_name : ElfWhy → List ℕ
 elf_why_name elf_whys.Short = codes "short"
 elf_why_name elf_whys.Magic = codes "magic"
@@ -62,6 +65,7 @@ elf_why_name elf_whys.WriteExec = codes "writeexec"
 elf_why_name elf_whys.Order = codes "order"
 elf_why_name elf_whys.NoText = codes "notext"
 
+-- the word for what is over its limit
 abbrev pub what_name : What → List ℕ
 what_name ImageBytes = codes "imagebytes"
 what_name Segments = codes "segments"
@@ -78,7 +82,7 @@ what_name SourceBytes = codes "sourcebytes"
 what_name ElfBytes = codes "elfbytes"
 what_name FileBytes = codes "filebytes"
 
--- what stands behind `kdbsim: ` in the line of a status
+-- what stands after `kdbsim: ` in the line of a status
 unfoldable pub words_of_status : Status → List ℕ
 words_of_status (Done ending) = []
 words_of_status Made = []

@@ -16,7 +16,7 @@ pub record IsFirstBus (start : Origin) (bus : CoreBus) : Type 0 where
   pub opening : IsOpening (told bus)
 
 -- The bus is what the ticks of these harts, in this order, make of a bus at this start in the opening configuration, with so
--- many rounds after which a gathering ends; it comes from that start, and no line was lost for want of memory.
+-- many rounds after which a gathering ends; it comes from that start, and no line was lost for lack of memory.
 pub record IsTicked (start : Origin) (rounds : ℕ) (plan : List ℕ) (bus : CoreBus) : Type 0 where
   pub first : CoreBus
   pub begins : IsFirstBus start first

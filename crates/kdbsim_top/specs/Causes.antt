@@ -98,7 +98,7 @@ abbrev pub IsAnswer : Outside → Option Command → Status → Type 0
 IsAnswer o None status = IsNoCommand o status
 IsAnswer o (Some command) status = Explains o command status
 
--- the same, where the command isn't run; for that only want of memory is answered
+-- the same, where the command isn't run; for that only a lack of memory is answered
 abbrev pub IsAnswerAlone : Outside → Option Command → Status → Type 0
 IsAnswerAlone o None status = IsNoCommand o status
 IsAnswerAlone o (Some command) status = ((is_run command ≡ false) ⊎ (status ≡ OutOfMemory)) × Explains o command status

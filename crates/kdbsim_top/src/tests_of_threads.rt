@@ -193,7 +193,7 @@ impl Pause for Hold<'_> {
     }
 }
 
-/// Nobody is late where each pause sleeps.
+/// There is no late hart where each pause sleeps.
 #[test]
 fn nobody_is_late_where_pauses_sleep(rt: HostRuntime) -> Result<(), Fail> {
     let alloc = rt.alloc();

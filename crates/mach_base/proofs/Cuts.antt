@@ -38,7 +38,7 @@ pub lines_of-none : (bs : List ℕ) → eqb (length bs) 0 ≡ true → lines_of 
 unfolding lines_of
 lines_of-none bs h = ap lines_of (nil_from_length bs (eqb-true _ _ h))
 
--- what is behind one byte of a rest
+-- what is after one byte of a rest
 pub behind : (bs : List ℕ) (n : ℕ) → n < length bs → take (length (drop n bs) - 1) (drop 1 (drop n bs)) ≡ drop (suc n) bs
 behind bs n h = rw (drop-cons bs n 0) (cut_one (get_or bs n 0) (drop (suc n) bs))
   where
@@ -106,7 +106,7 @@ words_of-word (b ∷ c ∷ cs) (suc (suc n)) some within word end =
     let rest = words_of-word (c ∷ cs) (suc n) (omega arith) (omega arith) (λ (k : ℕ) (h : k < suc n). word (suc k) (omega arith)) end in
     word_goes_on b (c ∷ cs) here next ∙ ap (onto_first b) rest
 
--- what stands behind a place with a blank begins with no word
+-- what stands after a place with a blank begins with no word
 pub no_word_at : (bs : List ℕ) (n : ℕ) → n < length bs → is_blank (get_or bs n 0) ≡ true → begins_with_word (drop n bs) ≡ false
 no_word_at bs n within blank = rw (drop-cons bs n 0, blank) refl
 

@@ -8,16 +8,19 @@ use Rattle.mach_base.specs.declared.memory_range.Kind.TheVariants.{Text, Data, R
 use Rattle.mach_base.specs.declared.memory_range.Segment.{Segment}
 use Rattle.mach_base.specs.Machine.{Memory}
 
+-- the number of a segment's kind
 abbrev number_of_kind : Kind → ℕ
 number_of_kind Text = 0
 number_of_kind Data = 1
 number_of_kind Rodata = 2
 
+-- the kind of segment that a number means, Rodata from 2 on
 abbrev kind_of_number : ℕ → Kind
 kind_of_number zero = Text
 kind_of_number (suc zero) = Data
 kind_of_number (suc (suc n)) = Rodata
 
+-- the number of a kind means that kind again
 pub kind_back : (k : Kind) → kind_of_number (number_of_kind k) ≡ k
 kind_back Text = refl
 kind_back Data = refl

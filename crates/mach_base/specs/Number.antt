@@ -20,6 +20,7 @@ first_bad radix digits = position (λ c. not (is_digit c radix)) digits
 abbrev pub fitting : ℕ → Result ℕ NumFault
 fitting value = if nat_lt value (2 ^ 64) then Ok value else Err TooLarge
 
+-- the value of the digits, or the fault of the byte at this place, which is no digit
 abbrev pub value_or_fault : ℕ → ℕ → List ℕ → Option ℕ → Result ℕ NumFault
 value_or_fault radix start digits None = fitting (digits_value radix digits)
 value_or_fault radix start digits (Some k) = Err (BadDigit (start + k))

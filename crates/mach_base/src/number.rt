@@ -75,7 +75,7 @@ fn value_of_digits(digits: &[u8], radix: u8) -> Option<u64>
     Some(value)
 }
 
-/// The value with one more digit behind it, if it fits.
+/// The value with one more digit after it, if it fits.
 fn with_digit(value: u64, digit: u8, radix: u8) -> Option<u64>
     requires low { 2 ≤ radix }
     requires high { radix ≤ 16 }

@@ -60,7 +60,7 @@ parts_of-push ss bs i s b content items new piece h are so_far pushed is copied 
     ∙ ap (λ p. parts_of (take i ss) bs ++ p ∷ []) (is ∙ bytes)
     ∙ sym (parts_of-take_more ss bs i s b h (omega arith))
 
--- one segment more has its pages behind those before
+-- one segment more has its pages after those before
 pub page_total-more : (ss : List Segment) (i : ℕ) (d : Segment) → i < length ss → page_total (take (i + 1) ss) ≡ page_total (take i ss) + pages_in (get_or ss i d)
 page_total-more [] i d h = absurd (omega arith)
 page_total-more (s ∷ ss) zero d h = omega arith

@@ -72,7 +72,7 @@ find-part_outside p addr whole h =
       | inr high ↦ find-numbered_past addr p.segment.base p.bytes (omega arith)
     ]
 
--- the next part is the first, counted from behind this one
+-- the next part is the first, counted from the end of this one
 pub first_behind : (p : Part) (ps : List Part) (addr i : ℕ) → IsFirstAt (p ∷ ps) addr (suc i) → IsFirstAt ps addr i
 first_behind p ps addr i f = record {
   within = omega (arith, f.within);

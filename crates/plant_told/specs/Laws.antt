@@ -28,6 +28,7 @@ abbrev pub IsAwakeAt : Stage → Bool → Type 0
 IsAwakeAt (stage.Pass again) halted = halted ≡ false
 IsAwakeAt other halted = Unit {0}
 
+-- in a single-step pass of the session, where one is open, its master isn't halted
 abbrev pub IsAwake : Option Sitting → Machine → Type 0
 IsAwake None s = Unit {0}
 IsAwake (Some sitting) s = IsAwakeAt sitting.stage (context_at s sitting.master.0).halted

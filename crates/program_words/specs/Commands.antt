@@ -40,33 +40,40 @@ options_of values = record {
 abbrev pub with_value : Values → Text → (Text → Option Command) → Option Command
 with_value values name make = option_and_then make (values name)
 
+-- the request `uni`, where each of its files is given
 abbrev pub uni_from : Values → Option Command
 uni_from values = with_value values (codes "image") (λ image. with_value values (codes "script") (λ script. Some (uni image script)))
 
+-- the request `replay`, where each of its files is given
 abbrev pub replay_from : Values → Option Command
 replay_from values =
     with_value values (codes "image") (λ image. with_value values (codes "map") (λ map. with_value values (codes "script")
     (λ script. with_value values (codes "journal") (λ journal. Some (replay image map script journal)))))
 
+-- the request `run`, where each of its files is given, with the options
 abbrev pub run_from : Values → Values → Option Command
 run_from values numbers =
     with_value values (codes "image") (λ image. with_value values (codes "map") (λ map. with_value values (codes "script")
     (λ script. with_value values (codes "journal") (λ journal. Some (run image map script journal (options_of numbers))))))
 
+-- the request `lockstep`, where each of its files is given, with the options
 abbrev pub lockstep_from : Values → Values → Option Command
 lockstep_from values numbers =
     with_value values (codes "image") (λ image. with_value values (codes "map") (λ map. with_value values (codes "script")
     (λ script. with_value values (codes "plan") (λ plan. with_value values (codes "journal")
     (λ journal. Some (lockstep image map script plan journal (options_of numbers)))))))
 
+-- the request `asm`, where both its files are given
 abbrev pub asm_from : Values → Option Command
 asm_from values = with_value values (codes "source") (λ source. with_value values (codes "image") (λ image. Some (asm source image)))
 
+-- the request `elf`, where each of its files is given
 abbrev pub elf_from : Values → Option Command
 elf_from values =
     with_value values (codes "elf") (λ executable. with_value values (codes "image") (λ image. with_value values (codes "map")
     (λ map. Some (elf executable image map))))
 
+-- the request `load`, where its number is given and is below 2^32
 abbrev pub load_from : Values → Option Command
 load_from numbers = option_map (λ n. load n) (option_and_then (number_to 4294967295) (numbers (codes "number")))
 

@@ -38,6 +38,7 @@ abbrev pub is_plain_kind : Kind → Bool
 is_plain_kind plain = true
 is_plain_kind _ = false
 
+-- whether the word is no flag: it begins with no dash, or is a dash by itself
 abbrev pub is_plain : Text → Bool
 is_plain word = is_plain_kind (kind word)
 

@@ -74,10 +74,11 @@ HasCommand old command new =
 abbrev pub IsRow : Row → Command → Type 0
 IsRow row command = IsParser command (record { top = row_command row; subs = [] })
 
--- the value of a name in the matches, as it is written, and as a number is read
+-- the value of a name in the matches, as it is written
 abbrev pub values_in : ArgMatches → Text → Option Text
 values_in found name = first_of name (rows_of (found_of found))
 
+-- the value of a name in the matches, as a number is read
 abbrev pub numbers_in : ArgMatches → Text → Option Text
 numbers_in found name = one_of name (rows_of (found_of found))
 
@@ -85,6 +86,7 @@ numbers_in found name = one_of name (rows_of (found_of found))
 abbrev pub row_of : Argument → Found
 row_of a = record { id = a.0; values = a.1 ∷ []; count = None; source = Some CommandLine; reading = AsWritten }
 
+-- what clap finds for the arguments that were given, in their order
 abbrev pub rows : List Argument → List Found
 rows given = map row_of given
 

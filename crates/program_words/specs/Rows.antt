@@ -55,5 +55,6 @@ elf_row = record { word = codes "elf"; operands = file (codes "elf") ∷ file (c
 abbrev pub load_row : Row
 load_row = record { word = codes "load"; operands = between (codes "number") 0 4294967295 ∷ []; options = [] }
 
+-- the table of the commands
 abbrev pub command_rows : List Row
 command_rows = uni_row ∷ replay_row ∷ run_row ∷ lockstep_row ∷ asm_row ∷ elf_row ∷ load_row ∷ []

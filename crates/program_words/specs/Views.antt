@@ -6,6 +6,7 @@ use Rattle.program_words.specs.declared.request.Command.{Command as Made}
 use Rattle.program_words.specs.declared.request.Command.TheVariants as made
 use Rattle.program_words.specs.Commands.{Command, uni, replay, run, lockstep, asm, elf, load, request_with}
 
+-- the command of the code, as the definitions have it
 abbrev pub command_view : Made → Command
 command_view (made.Uni image script) = uni image.now script.now
 command_view (made.Replay image map script journal) = replay image.now map.now script.now journal.now

@@ -51,6 +51,7 @@ abbrev pub kind_after_dash : Text → Kind
 kind_after_dash [] = plain
 kind_after_dash (b ∷ bs) = if b == 45 then kind_after_dashes bs else unknown
 
+-- the kind of a word: plain, `--` alone, a named option with or without its value, or unknown
 abbrev pub kind : Text → Kind
 kind [] = plain
 kind (b ∷ bs) = if b == 45 then kind_after_dash bs else plain
@@ -105,6 +106,7 @@ fits (number low high) word = is_number_in low high word
 abbrev pub Argument : Type 0
 Argument = Text × Text
 
+-- whether one of the arguments has this name
 abbrev pub is_given : Text → List Argument → Bool
 is_given name given = list_any (λ a. bytes_eq a.0 name) given
 
@@ -119,10 +121,12 @@ abbrev pub parameter_of : Row → ℕ → Item → Option Parameter
 parameter_of row before (operand value) = slice_get row.operands before
 parameter_of row before (option name value) = find (λ p. bytes_eq p.name name) row.options
 
+-- the value of an operand or an option
 abbrev pub value_of : Item → Text
 value_of (operand value) = value
 value_of (option name value) = value
 
+-- how many operands there are after the item, with so many before it
 abbrev pub operands_after : ℕ → Item → ℕ
 operands_after before (operand value) = before + 1
 operands_after before (option name value) = before

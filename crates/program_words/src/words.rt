@@ -73,7 +73,7 @@ fn matches(words: &[String], alloc: Global) -> Result<ArgMatches<'_>, WordsFault
     }
 }
 
-/// What an error of clap is to the program: want of memory, or a wrong use.
+/// What an error of clap is to the program: out of memory, or a wrong use.
 fn fault(error: &clap::Error) -> WordsFault
     ensures { result ≡ Usage → ¬ (kind_of error.now ≡ ErrorKind.OutOfMemory) }
 {

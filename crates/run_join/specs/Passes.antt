@@ -19,6 +19,7 @@ AreFresh table start harts rounds (first ∷ others) =
 abbrev pub Begins : {B : Type 0} → TableId → ℕ → ℕ → Pass B → Type 0
 Begins table harts rounds pass = IsFresh table (start_of pass) pass.stand.hart.0 harts rounds pass.stand.made pass
 
+-- each pass of a list is that of some hart of so many, before its first tick
 abbrev pub AllBegin : {B : Type 0} → TableId → ℕ → ℕ → List (Pass B) → Type 0
 AllBegin table harts rounds [] = Unit {0}
 AllBegin table harts rounds (pass ∷ passes) = Begins table harts rounds pass × AllBegin table harts rounds passes
@@ -28,6 +29,7 @@ pub record HasRun {B : Type 0} (table : TableId) (before after : Pass B) : Type 
   pub done : IsDone table (start_of before) before.stand.hart.0 after
   pub made : after.stand.made ≡ before.stand.made
 
+-- for each pass that a worker was given, one of the same hart comes back, in the same order
 abbrev pub AllRan : {B : Type 0} → TableId → List (Pass B) → List (Pass B) → Type 0
 AllRan table [] [] = Unit {0}
 AllRan table (before ∷ befores) (after ∷ afters) = HasRun table before after × AllRan table befores afters

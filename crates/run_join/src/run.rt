@@ -24,7 +24,7 @@ fn bus_at_end<B: Bus>(board: Board<B>, passes: Vec<Pass<B>>) -> B
 
 /// Runs the harts of a new board beside each other, each in a thread of its own, until each has seen an ending, and gives
 /// the bus back. `harts` is the number of the bus's harts, and `limit` that of rounds after which a gathering ends, as the
-/// board was made with them. A worker whose hart can't go on pauses on its own copy of `pause`. Want of memory is answered
+/// board was made with them. A worker whose hart can't go on pauses on its own copy of `pause`. A lack of memory is answered
 /// before the first worker starts, and then the bus is dropped. That every hart comes to an ending isn't promised: a run may
 /// wait for ever.
 pub fn run_all<R: Threads + Wait + Sync, B: Bus + Send, P: Pause + Copy + Send>(

@@ -35,7 +35,7 @@ stopped-operands : (f : Fields) (parts : List Part) → is_stopped (operands_tex
 stopped-operands f [] = refl
 stopped-operands f (part ∷ parts) = refl
 
--- behind the blank there are the parts
+-- after the blank there are the parts
 after_blank : (f : Fields) (parts : List Part) → drop 1 (operands_text f parts) ≡ parts_text f parts
 after_blank f [] = refl
 after_blank f (part ∷ parts) = refl

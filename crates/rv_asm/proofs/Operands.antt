@@ -134,7 +134,7 @@ abbrev pub is_marked : List Part → Bool
 is_marked [] = true
 is_marked (part ∷ parts) = not (is_word part)
 
--- behind each word there is a mark, or nothing
+-- after each word there is a mark, or nothing
 abbrev pub alternates : List Part → Bool
 alternates [] = true
 alternates (part ∷ parts) = (not (is_word part) || is_marked parts) && alternates parts

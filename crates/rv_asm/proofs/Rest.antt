@@ -7,7 +7,7 @@ use Rattle.rv_asm.specs.Rest.{after}
 next : (b t : ℕ) (text line : List ℕ) (is : Bool) → eqb b t ≡ is → after (t ∷ text) (b ∷ line) ≡ cond is (after text line) None
 next b t text line is e = ap (λ x. cond x (after text line) None) e
 
--- what is written behind a text follows it
+-- what is written after a text follows it
 pub after_text : (text rest : List ℕ) → after text (text ++ rest) ≡ Some rest
 after_text [] rest = refl
 after_text (t ∷ text) rest = next t t text (text ++ rest) true (eq-eqb t t refl) ∙ after_text text rest
@@ -20,7 +20,7 @@ same_head b t text line rest true is e more =
     cc
 same_head b t text line rest false is e more = let none = sym (next b t text line false is) ∙ e in absurd (cc)
 
--- what follows a text is written behind it
+-- what follows a text is written after it
 pub after_is : (text line rest : List ℕ) → after text line ≡ Some rest → line ≡ text ++ rest
 after_is [] line rest e = cc
 after_is (t ∷ text) [] rest e = absurd (cc)

@@ -35,6 +35,7 @@ abbrev pub number_in : Option RegName → ℕ
 number_in (Some (X n)) = n
 number_in _ = 0
 
+-- the number of the register of this name, 0 where there is none
 abbrev pub register_meant : List ℕ → ℕ
 register_meant name = number_in (register_named name)
 

@@ -21,10 +21,11 @@ is_based Lhu = true
 is_based Lwu = true
 is_based _ = false
 
--- two operands, and three
+-- two operands, with a comma between them
 abbrev pub two : Part → Part → List Part
 two a b = a ∷ Comma ∷ b ∷ []
 
+-- three operands, with commas between them
 abbrev pub three : Part → Part → Part → List Part
 three a b c = a ∷ Comma ∷ b ∷ Comma ∷ c ∷ []
 

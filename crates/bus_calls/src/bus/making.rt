@@ -36,8 +36,8 @@ impl CoreBus {
         self.stepped = stepped_after(entry, self.stepped);
     }
 
-    /// Makes a legal entry that prints a prompt, and counts it. After want of memory the core is lost, and the mask and the
-    /// number of lines are kept.
+    /// Makes a legal entry that prints a prompt, and counts it. Once memory has run out the core is lost, and the mask and
+    /// the number of lines are kept.
     pub fn speak(&mut self, entry: Entry) -> Result<(), OutOfMemory>
         requires going { is_over self.old ≡ false }
         requires legal { may (machine_of self.old.core) entry ≡ true }

@@ -51,7 +51,7 @@ impl Inner {
         }
     }
 
-    /// Makes a legal entry that prints a prompt. After want of memory nothing is claimed of the machine.
+    /// Makes a legal entry that prints a prompt. Once memory has run out nothing is claimed of the machine.
     pub fn make_spoken(&mut self, out: &mut Vec<u8>, entry: Entry) -> Result<(), OutOfMemory>
         requires legal { may (machine_of self.old) entry ≡ true }
         requires spoken { is_quiet entry ≡ false }

@@ -74,7 +74,7 @@ impl Core {
     }
 
     /// Makes a legal entry that prints a prompt: the entry goes into room that is there, and what it prints as memory
-    /// allows; then there are so many bytes more of room for text. After want of memory the core is lost.
+    /// allows; then there are so many bytes more of room for text. Once memory has run out the core is lost.
     pub fn speak(&mut self, entry: Entry, room: usize) -> Result<(), OutOfMemory>
         requires here { self.old.lost ≡ false }
         requires legal { is_legal (machine_of self.old) entry ≡ true }

@@ -9,15 +9,17 @@ use Rattle.deck_core.specs.declared.plain.notes.Sitting.{Sitting}
 use Rattle.deck_core.specs.declared.plain.notes.Stage.{Stage}
 use Rattle.deck_core.specs.declared.plain.notes.Stage.TheVariants as stage
 
--- stages by what may come next
+-- whether the stage is the one in which lines are run
 abbrev pub is_lines : Stage → Bool
 is_lines stage.Lines = true
 is_lines _ = false
 
+-- whether the stage is a single-step pass, before its instruction
 abbrev pub is_pass : Stage → Bool
 is_pass (stage.Pass again) = true
 is_pass _ = false
 
+-- whether the stage is the one before a session closes
 abbrev pub is_leaving : Stage → Bool
 is_leaving stage.Leaving = true
 is_leaving _ = false

@@ -31,6 +31,7 @@ abbrev pub in_stage : Stage → Option Sitting → Option Sitting
 in_stage to None = None
 in_stage to (Some sitting) = Some (record sitting { stage = to })
 
+-- whether the answer is Off
 abbrev pub is_off : Turned → Bool
 is_off turned.Off = true
 is_off _ = false
@@ -99,7 +100,7 @@ abbrev pub IsStepAddress : Option ℕ → Told → Type 0
 IsStepAddress None b = b.plantable ≡ false
 IsStepAddress (Some at) b = (b.next ≡ Some at) × (b.plantable ≡ true)
 
--- after want of memory an ending counts as standing, and only these are claimed
+-- once memory has run out an ending counts as standing, and only these are claimed
 pub record Lost (b : Told) (after : Told) : Type 0 where
   pub over : after.over ≡ true
   pub harts : after.harts ≡ b.harts
@@ -115,6 +116,7 @@ LineLeaves b (lined.Free enabled) after = (after ≡ line_read stage.Leaving b a
 LineLeaves b lined.Ended after = after ≡ record b { over = true }
 LineLeaves b lined.Lost after = Lost b after
 
+-- `line` leaves what its answer says; once an ending stands, it answers Ended and changes nothing
 abbrev pub LineGives : Told → Lined → Told → Type 0
 LineGives b answer after = Gives b.over ((answer ≡ lined.Ended) × (after ≡ b)) (LineLeaves b answer after)
 
@@ -137,6 +139,7 @@ PassLeaves h b (passed.Free enabled) after =
     ((has_bit b.faults h ≡ false) × (in_session (λ s. is_again s.stage) b.session ≡ false))
     × ((enabled ≡ b.enabled) × (after ≡ executed stage.Leaving b after))
 
+-- `pass_step` of h leaves what its answer says; once an ending stands, it answers Free of no place and changes nothing
 abbrev pub PassGives : ℕ → Told → Passed → Told → Type 0
 PassGives h b answer after =
     Gives b.over ((answer ≡ passed.Free 0) × (after ≡ b)) (PassLeaves h b answer after)
@@ -185,13 +188,13 @@ pub record HonestCall (a : Act) (b : Told) (answer : Answer) (after : Told) : Ty
   pub does : CallLeaves a b answer after
   pub fits : IsTold after
 
--- whether a line met want of memory
+-- whether a line ran out of memory
 abbrev pub is_lost_line : Answer → Bool
 is_lost_line (answer.Line lined.Lost) = true
 is_lost_line _ = false
 
--- over a call with this answer: an ending that stands stays, and none comes to stand after want of memory; want of memory
--- comes by a line alone, and stays
+-- over a call with this answer: an ending that stands stays, and none comes to stand once memory has run out; memory
+-- runs out in a line alone, and that stays
 pub record StaysEnded (a : Answer) (ending : Option Ending) (is_lost : Bool) (ending_after : Option Ending) (is_lost_after : Bool) : Type 0 where
   pub ended : (is_some ending || is_lost) ≡ true → ending_after ≡ ending
   pub lost : is_lost_after ≡ (is_lost_line a || is_lost)

@@ -6,7 +6,7 @@ use Rattle.deck_core.specs.declared.plain.notes.Notes.{Notes}
 
 -- the number of harts; the mask of the harts that the session has stopped; the masks of the planted and of the enabled
 -- places; the step word's address; the session; how many lines were read and how many calls sent; whether a step word
--- was planted since the last line; whether an ending stands, or a line met want of memory; the masks of the harts that
+-- was planted since the last line; whether an ending stands, or a line ran out of memory; the masks of the harts that
 -- have a trap, and whose instruction faults; the next address of the session's master, and whether that is a text word
 -- other than its pc
 pub record Told : Type 0 where

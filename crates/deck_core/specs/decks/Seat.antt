@@ -75,11 +75,12 @@ is_answer_of (act.Line h) (answer.Line r) = true
 is_answer_of (act.PassStep h) (answer.PassStep r) = true
 is_answer_of _ _ = false
 
--- whether the place is before the taking of the turn, and the word that was seen before it
+-- whether the place is before the taking of the turn
 abbrev pub is_take : Place → Bool
 is_take (place.Take seen) = true
 is_take _ = false
 
+-- the word that was seen before the taking of the turn, 0 at another place
 abbrev pub seen_at : Place → ℕ
 seen_at (place.Take seen) = seen
 seen_at _ = 0
@@ -89,11 +90,12 @@ abbrev pub is_peek : Place → Bool
 is_peek place.Peek = true
 is_peek _ = false
 
--- the phase in which a hart looks, and what it keeps
+-- whether the phase is the one in which a hart looks
 abbrev pub is_gather : Phase → Bool
 is_gather (phase.Gather looks) = true
 is_gather _ = false
 
+-- the looks that a hart in Gather keeps, none in another phase
 abbrev pub looks_in : Phase → Looks
 looks_in (phase.Gather looks) = looks
 looks_in _ = record { rounds = 0; next = 0; gathered = 0 }

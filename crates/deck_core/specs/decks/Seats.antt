@@ -6,6 +6,7 @@ use Rattle.deck_core.specs.declared.plain.phase.Phase.TheVariants.{Run}
 use Rattle.deck_core.specs.declared.plain.phase.Place.TheVariants.{Peek}
 use Rattle.deck_core.specs.declared.decks.seats.Seats.{Seats}
 
+-- the configuration of the seats, with this limit of rounds and with what the bus tells
 abbrev pub configuration_of : ℕ → Seats → Told → Configuration
 configuration_of limit seats told = record {
   limit = limit;

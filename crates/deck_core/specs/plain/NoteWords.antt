@@ -15,10 +15,12 @@ abbrev pub there_word : Option ℕ → ℕ
 there_word None = 0
 there_word (Some address) = 1
 
+-- the address, 0 where there is none
 abbrev pub address_word : Option ℕ → ℕ
 address_word None = 0
 address_word (Some address) = address
 
+-- the address that two such words mean, if there is one
 abbrev pub address_of : ℕ → ℕ → Option ℕ
 address_of there address = if there == 0 then None else Some address
 
@@ -30,6 +32,7 @@ stage_number (stage.Pass true) = 3
 stage_number stage.Back = 4
 stage_number stage.Leaving = 5
 
+-- the stage of a number, Leaving where the number is none of the others'
 abbrev pub stage_of : ℕ → Stage
 stage_of number =
     if number == 1 then stage.Lines
@@ -37,18 +40,22 @@ stage_of number =
     else (if number == 3 then stage.Pass true
     else (if number == 4 then stage.Back else stage.Leaving)))
 
+-- the number of the session's stage, 0 without a session
 abbrev pub stage_word : Option Sitting → ℕ
 stage_word None = 0
 stage_word (Some sitting) = stage_number sitting.stage
 
+-- the number of the session's master, 0 without a session
 abbrev pub master_word : Option Sitting → ℕ
 master_word None = 0
 master_word (Some sitting) = sitting.master.0
 
+-- the mask of the session's late harts, 0 without a session
 abbrev pub late_word : Option Sitting → ℕ
 late_word None = 0
 late_word (Some sitting) = sitting.late
 
+-- the session that three such words mean, if there is one
 abbrev pub session_of : ℕ → ℕ → ℕ → Option Sitting
 session_of number master late =
     if number == 0 then None

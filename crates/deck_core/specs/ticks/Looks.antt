@@ -22,11 +22,12 @@ looks_over m [] c last run looks = looks
 looks_over m (h ∷ plan) c last run looks =
     looks_over m plan run.1.0 last run.1.1.1 (if h == m then looks_with (c.phase m) c looks else looks)
 
--- how many of the looks at hart k found no mark that counts, and how many found one
+-- how many of the looks at hart k found no mark that counts
 abbrev pub missed : ℕ → List Look → ℕ
 missed k [] = 0
 missed k (look ∷ looks) = if (look.at == k) && not look.counted then suc (missed k looks) else missed k looks
 
+-- how many of the looks at hart k found a mark that counts
 abbrev pub found : ℕ → List Look → ℕ
 found k [] = 0
 found k (look ∷ looks) = if (look.at == k) && look.counted then suc (found k looks) else found k looks

@@ -84,6 +84,7 @@ pulling kept left = if left == 0 then phase.Lines kept else phase.Pull kept left
 abbrev pub planting : Kept → ℕ → Phase
 planting kept left = if left == 0 then phase.Close kept else phase.Plant kept left
 
+-- the phase after the answer of `enter`
 abbrev pub after_enter : Kept → Entered → Phase
 after_enter kept (entered.Inside planted) = pulling kept planted
 after_enter kept entered.Off = phase.Close kept
@@ -93,6 +94,7 @@ abbrev pub passing : Kept → Option ℕ → Phase
 passing kept (Some at) = phase.PlantStep kept at
 passing kept None = phase.PassStep kept false
 
+-- the phase after the answer of `line`
 abbrev pub after_line : Kept → Lined → Phase
 after_line kept lined.Stay = phase.Lines kept
 after_line kept (lined.Pass at again) = passing kept at
@@ -105,10 +107,12 @@ abbrev pub then_of : Passed → Then
 then_of (passed.Free enabled) = follow.Plant enabled
 then_of _ = follow.Enter
 
+-- the phase after a single-step pass, once no step word stands
 abbrev pub after_pull_step : Kept → Then → Phase
 after_pull_step kept follow.Enter = phase.Enter kept true
 after_pull_step kept (follow.Plant left) = planting kept left
 
+-- the phase after the answer of `pass_step`, where a step word stands or none does
 abbrev pub after_pass : Kept → Bool → Passed → Phase
 after_pass kept planted r = if planted then phase.PullStep kept (then_of r) else after_pull_step kept (then_of r)
 
@@ -128,22 +132,27 @@ act_of h (phase.Plant kept left) = act.Plant (least left)
 act_of h (phase.Close kept) = act.Close (record { 0 = h })
 act_of h _ = act.HartStep (record { 0 = h })
 
+-- the answer of `hart_step`, Idle where it is another call's
 abbrev pub step_answer : Answer → Turned
 step_answer (answer.HartStep r) = r
 step_answer _ = turned.Idle
 
+-- whether it is an answer of `check` that tells a trap
 abbrev pub check_answer : Answer → Bool
 check_answer (answer.Check r) = is_some r
 check_answer _ = false
 
+-- the answer of `enter`, Off where it is another call's
 abbrev pub enter_answer : Answer → Entered
 enter_answer (answer.Enter r) = r
 enter_answer _ = entered.Off
 
+-- the answer of `line`, Ended where it is another call's
 abbrev pub line_answer : Answer → Lined
 line_answer (answer.Line r) = r
 line_answer _ = lined.Ended
 
+-- the answer of `pass_step`, Faulted where it is another call's
 abbrev pub pass_answer : Answer → Passed
 pass_answer (answer.PassStep r) = r
 pass_answer _ = passed.Faulted

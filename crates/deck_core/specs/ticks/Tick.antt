@@ -91,6 +91,7 @@ tick_in phase.Free h a after c = frees h c
 tick_in phase.Finished h a after c = c
 tick_in p h a after c = transacts h p (c.place h) a after c
 
+-- hart h's tick, in the phase that it is in: the configuration after it
 unfoldable pub tick : ℕ → Answer → Told → Configuration → Configuration
 tick h a after c = tick_in (c.phase h) h a after c
 

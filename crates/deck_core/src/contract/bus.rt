@@ -22,7 +22,7 @@ pub trait Bus: Drop {
     /// The ending that stands, if any.
     ghost ending: { Self → Option Ending };
 
-    /// Whether a line met want of memory.
+    /// Whether a line ran out of memory.
     ghost is_lost: { Self → Bool };
 
     /// That a call with this answer makes one bus of another. A bus that says nothing here may do all that its clauses
@@ -143,7 +143,7 @@ pub trait Bus: Drop {
     fn over(&self) -> Option<Ending>
         ensures { result ≡ ending self.now };
 
-    /// Whether a line met want of memory; it stays true.
+    /// Whether a line ran out of memory; it stays true.
     fn lost(&self) -> bool
         ensures { result ≡ is_lost self.now };
 
@@ -151,7 +151,7 @@ pub trait Bus: Drop {
     fn notes(&self) -> Notes
         ensures { told self.now ≡ told_of (told self.now).harts (told self.now).mask result };
 
-    /// An ending counts as standing after want of memory too.
+    /// An ending counts as standing too once memory has run out.
     ghost over_is: { (b : Self) → (told b).over ≡ (is_some (ending b) || is_lost b) };
 
     /// Every bus has its own origin.

@@ -17,7 +17,7 @@ pub trait GrowingBus: Bus {
     ghost is_order: { IsOrderOver Self.Does GrowsTo };
 }
 
-/// A bus whose calls are a function of a state that it shows, as long as no line meets want of memory.
+/// A bus whose calls are a function of a state that it shows, as long as no line runs out of memory.
 pub trait ExactBus: Bus {
     /// What the bus shows.
     ghost State: { Type 0 };

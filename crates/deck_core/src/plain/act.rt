@@ -39,7 +39,7 @@ pub enum Lined {
     Free { enabled: u64 },
     /// No line was left, or an ending stands.
     Ended,
-    /// The line met want of memory. Nothing more is claimed of what the bus did.
+    /// The line ran out of memory. Nothing more is claimed of what the bus did.
     Lost,
 }
 

@@ -39,7 +39,7 @@ pub struct Notes {
     pub sends: u64,
     /// Whether a step word was planted since the last line.
     pub stepped: bool,
-    /// Whether an ending stands, or a line met want of memory.
+    /// Whether an ending stands, or a line ran out of memory.
     pub over: bool,
     /// The mask of the harts that have a trap.
     pub traps: u64,

@@ -2,7 +2,7 @@ use Rattle.std.proofs.Common.{◌≤◌, length}
 use Rattle.asm_text.proofs.Splits.{IsSplit}
 use Rattle.asm_text.proofs.instruction.last_word_start.Given as goal
 
--- no blank stands behind the place so far
+-- no blank stands after the place so far
 abbrev pub invariant-loop-last : goal.invariant-loop-last
 invariant-loop-last l = record {
   split : IsSplit l.line l.left;

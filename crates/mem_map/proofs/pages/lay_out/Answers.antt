@@ -6,7 +6,7 @@ use Rattle.mem_map.proofs.Built.{first_pages-more, page_total-more, page_total-t
 use Rattle.mem_map.proofs.Numbering.{few-pages}
 use Rattle.mem_map.proofs.pages.lay_out.Goals as goal
 
--- what is read behind the last segment
+-- what is read after the last segment
 abbrev nowhere : Segment
 nowhere = record { base = 0; len = 0; kind = Text }
 
