@@ -1,5 +1,5 @@
 -- The files of a command, in the order in which they are read: what each means, and what is wrong with one.
-use Rattle.std.specs.Prelude.{◌≡◌, ℕ, ◌<◌, ◌≤◌, ◌⊎◌, List, [], ◌∷◌, length, map, Option, Some, None, Ok, Err}
+use Rattle.std.specs.Prelude.{◌≡◌, ℕ, ◌<◌, ◌≤◌, ◌⊎◌, List, [], ◌∷◌, length, map, Option, Some, None, Result, Ok, Err, MatchResult}
 use Rattle.mach_base.specs.Machine.{Symbol}
 use Rattle.mach_base.specs.declared.event.Entry.{Entry}
 use Rattle.mach_base.specs.declared.event.What.{What}
@@ -17,6 +17,7 @@ use Rattle.plan_text.specs.Reading.{plan_of}
 use Rattle.plan_text.specs.declared.fault.PlanFault.{PlanFault}
 use Rattle.jrn_text.specs.Journal as journals
 use Rattle.jrn_text.specs.declared.fault.JournalFault.{JournalFault}
+use Rattle.jrn_text.specs.declared.journal.Journal as journal_structs
 use Rattle.asm_text.specs.Reading.{source_of}
 use Rattle.asm_text.specs.declared.fault.SourceFault.{SourceFault}
 use Rattle.elf_img.specs.Causes.{first_fault}
@@ -147,6 +148,10 @@ pub record IsLoaded (contents : Option FileMap) (name : List ℕ) (loaded : Load
   pub map_is : loaded.map ≡ map_text value.symbols
   pub reads : symbols_of loaded.map ≡ Ok (map named value.symbols)
 
+-- the journal of this name was read to its end, nothing is wrong with it, and it is this
+abbrev pub IsReadJournal : Option FileMap → List ℕ → journal_structs.Journal → Type 0
+IsReadJournal contents name journal = HasFile contents journal_file name (record { harts = journal.harts; limit = journal.limit; entries = journal.entries.entries })
+
 -- the file of this name was read, and is refused so
 pub record IsRefused (contents : Option FileMap) (kind : Kind) (name : List ℕ) (status : Status) : Type 0 where
   pub bytes : List ℕ
@@ -161,6 +166,10 @@ HasFailed file before after status = (status ≡ ReadFault file) × HasRisen bef
 abbrev pub FailsAtFile : Option FileMap → Kind → List ℕ → ℕ → ℕ → Status → Type 0
 FailsAtFile contents kind name before after status =
     HasFailed (file_of kind) before after status ⊎ IsRefused contents kind name status ⊎ (status ≡ OutOfMemory)
+
+-- what reading the file of a name answers: what it says, or why it isn't there to be used
+abbrev pub IsInput : Option FileMap → (kind : Kind) → List ℕ → ℕ → ℕ → Result (Value kind) Status → Type 0
+IsInput contents kind name before after result = MatchResult result (HasFile contents kind name) (FailsAtFile contents kind name before after)
 
 -- a file of a command: what it is read as, and its name
 pub record Input : Type 0 where

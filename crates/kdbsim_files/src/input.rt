@@ -4,7 +4,7 @@ ghost use Rattle.io_edge.specs.Edge.{IsTold};
 ghost use Rattle.mem_map.specs.Parts.{segments_of};
 ghost use Rattle.img_text.specs.Reading.{has_text};
 ghost use Rattle.plan_text.specs.Ticks.{AreBelow, ticks_of};
-ghost use Rattle.kdbsim_files.specs.Files.{bytes_of_file, size_limit, image_file, map_file, script_file, plan_file, journal_file, source_file, elf_file, FailsAtFile, FailsBefore, HasFile, IsLoaded};
+ghost use Rattle.kdbsim_files.specs.Files.{bytes_of_file, size_limit, image_file, map_file, script_file, plan_file, journal_file, source_file, elf_file, FailsAtFile, FailsBefore, IsInput, IsLoaded, IsReadJournal};
 
 use crate::{File, Status};
 use asm_text::{a_source_is_what_its_lines_give, read_source};
@@ -22,7 +22,7 @@ use sym_map::Symbols;
 
 /// Reads the image of a name, and finds what is wrong with it.
 pub fn image_input<F: Shelf>(alloc: Global, shelf: &mut F, name: &str) -> Result<Image, Status>
-    ensures image { MatchResult result (HasFile (F.contents shelf.old) image_file name.now) (FailsAtFile (F.contents shelf.old) image_file name.now (F.faults shelf.old) (F.faults shelf.new)) }
+    ensures image { IsInput (F.contents shelf.old) image_file name.now (F.faults shelf.old) (F.faults shelf.new) result }
     ensures kept { F.contents shelf.new ≡ F.contents shelf.old }
     ensures count { F.faults shelf.old ≤ F.faults shelf.new }
 {
@@ -32,7 +32,7 @@ pub fn image_input<F: Shelf>(alloc: Global, shelf: &mut F, name: &str) -> Result
 
 /// Reads the map of a name, and finds what is wrong with it.
 pub fn map_input<F: Shelf>(alloc: Global, shelf: &mut F, name: &str) -> Result<Symbols, Status>
-    ensures map { MatchResult result (HasFile (F.contents shelf.old) map_file name.now) (FailsAtFile (F.contents shelf.old) map_file name.now (F.faults shelf.old) (F.faults shelf.new)) }
+    ensures map { IsInput (F.contents shelf.old) map_file name.now (F.faults shelf.old) (F.faults shelf.new) result }
     ensures kept { F.contents shelf.new ≡ F.contents shelf.old }
     ensures count { F.faults shelf.old ≤ F.faults shelf.new }
 {
@@ -42,7 +42,7 @@ pub fn map_input<F: Shelf>(alloc: Global, shelf: &mut F, name: &str) -> Result<S
 
 /// Reads the script of a name, and finds what is wrong with it.
 pub fn script_input<F: Shelf>(alloc: Global, shelf: &mut F, name: &str) -> Result<Script, Status>
-    ensures script { MatchResult result (HasFile (F.contents shelf.old) script_file name.now) (FailsAtFile (F.contents shelf.old) script_file name.now (F.faults shelf.old) (F.faults shelf.new)) }
+    ensures script { IsInput (F.contents shelf.old) script_file name.now (F.faults shelf.old) (F.faults shelf.new) result }
     ensures kept { F.contents shelf.new ≡ F.contents shelf.old }
     ensures count { F.faults shelf.old ≤ F.faults shelf.new }
 {
@@ -57,7 +57,7 @@ pub fn plan_input<F: Shelf>(
     name: &str,
     harts: u8,
 ) -> Result<Plan, Status>
-    ensures plan { MatchResult result (HasFile (F.contents shelf.old) (plan_file harts) name.now) (FailsAtFile (F.contents shelf.old) (plan_file harts) name.now (F.faults shelf.old) (F.faults shelf.new)) }
+    ensures plan { IsInput (F.contents shelf.old) (plan_file harts) name.now (F.faults shelf.old) (F.faults shelf.new) result }
     ensures below { IfOk result (λ plan. AreBelow harts (ticks_of plan)) }
     ensures kept { F.contents shelf.new ≡ F.contents shelf.old }
     ensures count { F.faults shelf.old ≤ F.faults shelf.new }
@@ -68,7 +68,7 @@ pub fn plan_input<F: Shelf>(
 
 /// Reads the journal of a name, and finds what is wrong with it.
 pub fn journal_input<F: Shelf>(alloc: Global, shelf: &mut F, name: &str) -> Result<Journal, Status>
-    ensures journal { MatchResult result (λ j. HasFile (F.contents shelf.old) journal_file name.now (record { harts = j.harts; limit = j.limit; entries = j.entries.entries })) (FailsAtFile (F.contents shelf.old) journal_file name.now (F.faults shelf.old) (F.faults shelf.new)) }
+    ensures journal { MatchResult result (IsReadJournal (F.contents shelf.old) name.now) (FailsAtFile (F.contents shelf.old) journal_file name.now (F.faults shelf.old) (F.faults shelf.new)) }
     ensures kept { F.contents shelf.new ≡ F.contents shelf.old }
     ensures count { F.faults shelf.old ≤ F.faults shelf.new }
 {
@@ -78,7 +78,7 @@ pub fn journal_input<F: Shelf>(alloc: Global, shelf: &mut F, name: &str) -> Resu
 
 /// Reads the source of a name, finds what is wrong with it, and gives the image that it means.
 pub fn source_input<F: Shelf>(alloc: Global, shelf: &mut F, name: &str) -> Result<Image, Status>
-    ensures source { MatchResult result (HasFile (F.contents shelf.old) source_file name.now) (FailsAtFile (F.contents shelf.old) source_file name.now (F.faults shelf.old) (F.faults shelf.new)) }
+    ensures source { IsInput (F.contents shelf.old) source_file name.now (F.faults shelf.old) (F.faults shelf.new) result }
     ensures text { IfOk result (λ image. IsTrue (has_text (segments_of image.parts))) }
     ensures kept { F.contents shelf.new ≡ F.contents shelf.old }
     ensures count { F.faults shelf.old ≤ F.faults shelf.new }

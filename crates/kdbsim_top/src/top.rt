@@ -25,9 +25,9 @@ use std::thread::Threads;
 
 /// All that the program does: reads its words, reads the files that they name from the shelf, runs the machine, writes the
 /// journal, if the command has one, and puts the transcript into the sink in one call; of a command that makes files it writes
-/// these. The answer says how the run ended, or
-/// why there was none; each has its cause (docs/theorems.md). The workers of `run` are threads of `rt`, and each pauses on
-/// its own copy of `pause` where its hart can't go on; the call may wait for one of them for ever.
+/// these. The answer says how the run ended, or why there was none; each has its cause (docs/theorems.md). The workers of
+/// `run` are threads of `rt`, and each pauses on its own copy of `pause` where its hart can't go on; the call may wait for
+/// one of them for ever.
 pub fn kdbsim<R: Threads + Wait + Sync, F: Shelf, O: Sink, P: Pause + Copy + Send>(
     rt: &R,
     alloc: Global,

@@ -11,7 +11,7 @@ use Rattle.mach_base.specs.declared.limits.TheConstants.{MOST_HARTS, MOST_ROUNDS
 use Rattle.program_words.specs.Rows.{asm_row, command_rows, elf_row, load_row, lockstep_row, replay_row, run_row, uni_row}
 use Rattle.program_words.specs.Commands.{Command, Values, asm, elf, load, lockstep, number_or, number_to, options_of, replay, request_from, run, uni}
 use Rattle.program_words.specs.Laws.{AreWithin, IsCommandWithin, RequestsAreWithin}
-use Rattle.program_words.proofs.RowRules.{bytes_eq-same, or_false}
+use Rattle.program_words.proofs.RowRules.{bytes_eq-same, found_row, or_false}
 
 -- the argument is one of these parameters, and fits it
 abbrev pub fits_one : List Parameter → Argument → Bool
@@ -142,28 +142,31 @@ uni_within : IsRowWithin uni_row
 uni_within given r all e =
     with_value_within (argument (codes "image") given) _ r (λ image. with_value_within (argument (codes "script") given) _ r (λ script. made_within (uni image script) r tt)) e
 
+-- a request is within its bounds where it is so with each image, map and script
+start_within : (given : List Argument) (make : Text → Text → Text → Option Command) (r : Command) → ((image map script : Text) → make image map script ≡ Some r → IsCommandWithin r)
+    → option_and_then (λ image. option_and_then (λ map. option_and_then (λ script. make image map script) (argument (codes "script") given)) (argument (codes "map") given)) (argument (codes "image") given) ≡ Some r
+    → IsCommandWithin r
+start_within given make r within e =
+    with_value_within (argument (codes "image") given) _ r (λ image. with_value_within (argument (codes "map") given) _ r
+    (λ map. with_value_within (argument (codes "script") given) _ r (λ script. within image map script))) e
+
 replay_within : IsRowWithin replay_row
 replay_within given r all e =
-    with_value_within (argument (codes "image") given) _ r (λ image. with_value_within (argument (codes "map") given) _ r
-    (λ map. with_value_within (argument (codes "script") given) _ r (λ script. with_value_within (argument (codes "journal") given) _ r
-    (λ journal. made_within (replay image map script journal) r tt)))) e
+    start_within given _ r (λ image map script. with_value_within (argument (codes "journal") given) _ r (λ journal. made_within (replay image map script journal) r tt)) e
 
 run_within : IsRowWithin run_row
 run_within given r all e =
     let options : AreWithin (options_of (λ name. argument name given)) =
     options_within run_row given all (λ t h. sym (or_false _) ∙ h) (λ t h. sym (or_false _) ∙ h) (λ t h. sym (or_false _) ∙ h) in
-    with_value_within (argument (codes "image") given) _ r (λ image. with_value_within (argument (codes "map") given) _ r
-    (λ map. with_value_within (argument (codes "script") given) _ r (λ script. with_value_within (argument (codes "journal") given) _ r
-    (λ journal. made_within (run image map script journal (options_of (λ name. argument name given))) r options)))) e
+    start_within given _ r (λ image map script. with_value_within (argument (codes "journal") given) _ r
+    (λ journal. made_within (run image map script journal (options_of (λ name. argument name given))) r options)) e
 
 lockstep_within : IsRowWithin lockstep_row
 lockstep_within given r all e =
     let options : AreWithin (options_of (λ name. argument name given)) =
     options_within lockstep_row given all (λ t h. sym (or_false _) ∙ h) (λ t h. sym (or_false _) ∙ h) (λ t h. sym (or_false _) ∙ h) in
-    with_value_within (argument (codes "image") given) _ r (λ image. with_value_within (argument (codes "map") given) _ r
-    (λ map. with_value_within (argument (codes "script") given) _ r (λ script. with_value_within (argument (codes "plan") given) _ r
-    (λ plan. with_value_within (argument (codes "journal") given) _ r
-    (λ journal. made_within (lockstep image map script plan journal (options_of (λ name. argument name given))) r options))))) e
+    start_within given _ r (λ image map script. with_value_within (argument (codes "plan") given) _ r (λ plan. with_value_within (argument (codes "journal") given) _ r
+    (λ journal. made_within (lockstep image map script plan journal (options_of (λ name. argument name given))) r options))) e
 
 asm_within : IsRowWithin asm_row
 asm_within given r all e =
@@ -188,25 +191,8 @@ load_within given r all e = go (argument (codes "number") given) (λ t. number_f
     go None h f = absurd (cc)
     go (Some t) h f = read t (is_number_in 0 4294967295 t) (h t refl) f
 
-more_within : (q : Row) (table : List Row) → IsRowWithin q → ((word : Text) (row : Row) → find (λ r. bytes_eq r.word word) table ≡ Some row → IsRowWithin row)
-    → (word : Text) (row : Row) → find (λ r. bytes_eq r.word word) (q ∷ table) ≡ Some row → IsRowWithin row
-more_within q table one rest word row found = go (bytes_eq q.word word) found
-  where
-    go : (b : Bool) → cond b (Some q) (find (λ r. bytes_eq r.word word) table) ≡ Some row → IsRowWithin row
-    go true f = let same : q ≡ row = cc in subst IsRowWithin same one
-    go false f = rest word row f
-
-none_within : (word : Text) (row : Row) → find (λ r. bytes_eq r.word word) [] ≡ Some row → IsRowWithin row
-none_within word row found = absurd (cc)
-
 rows_within : (word : Text) (row : Row) → find (λ r. bytes_eq r.word word) command_rows ≡ Some row → IsRowWithin row
-rows_within =
-    more_within uni_row (replay_row ∷ run_row ∷ lockstep_row ∷ asm_row ∷ elf_row ∷ load_row ∷ []) uni_within
-    (more_within replay_row (run_row ∷ lockstep_row ∷ asm_row ∷ elf_row ∷ load_row ∷ []) replay_within
-    (more_within run_row (lockstep_row ∷ asm_row ∷ elf_row ∷ load_row ∷ []) run_within
-    (more_within lockstep_row (asm_row ∷ elf_row ∷ load_row ∷ []) lockstep_within
-    (more_within asm_row (elf_row ∷ load_row ∷ []) asm_within
-    (more_within elf_row (load_row ∷ []) elf_within (more_within load_row [] load_within none_within))))))
+rows_within = found_row IsRowWithin command_rows (uni_within, (replay_within, (run_within, (lockstep_within, (asm_within, (elf_within, (load_within, tt)))))))
 
 given_within : (row : Row) (words : List Text) (r : Command) → IsRowWithin row
     → option_and_then (λ (q : Row × List Argument). request_from q.0 q.1) (option_map (λ (g : List Argument). (row, g)) (arguments_of row words)) ≡ Some r → IsCommandWithin r

@@ -1,13 +1,17 @@
 -- A number that clap reads is that of the grammar.
 use Rattle.std.proofs.Common.{◌≡◌, ◌∙◌, ◌<◌, ◌+◌, ◌^◌, ℕ, Bool, cond, true, false, refl, sym, ap, arith, List, Option, Some, None, Result, Ok, Err, true≢false, lt-ltb}
 use Rattle.std.specs.Prelude.{option_and_then}
-use Rattle.std.specs.Str.Parse.{ParsesUnsigned, digits_value, without_leading_plus}
+use Rattle.std.specs.Str.Parse.{ExplainsUnsignedError, HasUnsignedDigitsIfOk, ParsesUnsigned, digits_value, without_leading_plus}
 use Rattle.clap.specs.Matches.{ReadsOne}
+use Rattle.clap.specs.Words.{found_of, one_text}
 use Rattle.clap.specs.Values.{IsUnsignedIn}
 use Rattle.clap.specs.declared.builder.value_parser.ValueParser.TheVariants as vp
+use Rattle.clap.specs.declared.parser.matches.ArgMatches.{ArgMatches}
 use Rattle.clap.proofs.ValueTestLemmas.{Accepts-accepts, accepts-Accepts}
+use Rattle.clap.proofs.WalkLemmas.{one_text-rows}
 use Rattle.program_words.specs.Words.{Text, number, is_number_in}
 use Rattle.program_words.specs.Commands.{number_to}
+use Rattle.program_words.specs.Parser.{numbers_in}
 use Rattle.program_words.proofs.Uses.{accepts_as}
 
 module _ (k most : ℕ) (most_is : most + 1 ≡ 2 ^ k) (small : most < 2 ^ 64) where
@@ -44,3 +48,11 @@ module _ (k most : ℕ) (most_is : most + 1 ≡ 2 ^ k) (small : most < 2 ^ 64) w
       go : (o : Option ℕ) → ReadsOne gives t o → o ≡ number_to most t
       go (Some v) h = parsed E t v (parses t (Ok v) h)
       go None h = refused t h.0 (parses t (Err h.0) h.1)
+
+  -- the number of a name among what clap found
+  pub number_found : (found : ArgMatches) (name : Text) (result : Option ℕ) → (one_text (found_of found) name ≡ None → result ≡ None)
+      → ((t : Text) → one_text (found_of found) name ≡ Some t → ReadsOne (λ bs r. ParsesUnsigned k 10 bs r × ExplainsUnsignedError 10 bs r × HasUnsignedDigitsIfOk bs r) t result)
+      → result ≡ option_and_then (number_to most) (numbers_in found name)
+  number_found found name result none some =
+      number_read (λ bs r. ParsesUnsigned k 10 bs r × ExplainsUnsignedError 10 bs r × HasUnsignedDigitsIfOk bs r) (λ t r g. g.0) (numbers_in found name) result
+      (λ e. none (one_text-rows (found_of found) name ∙ e)) (λ t e. some t (one_text-rows (found_of found) name ∙ e))

@@ -1,6 +1,6 @@
 -- The program's parser is the table's, and its parse is the grammar's.
-use Rattle.std.proofs.Common.{◌≡◌, ◌∙◌, inl, inr, ◌<◌, ◌+◌, ◌&&◌, ℕ, Bool, cond, true, false, zero, suc, refl, sym, ap, arith, List, [], ◌∷◌, map, length, Option, Some, None, not, is_some, subst, ◌==◌}
-use Rattle.std.specs.List.{find, list_all}
+use Rattle.std.proofs.Common.{◌≡◌, ◌∙◌, inl, inr, ◌<◌, ◌+◌, ◌&&◌, ℕ, Bool, cond, true, false, zero, suc, refl, sym, ap, arith, List, [], ◌∷◌, map, length, Option, Some, None, not, is_some, nat_lt, ltb-true, ◌==◌}
+use Rattle.std.specs.List.{AllByRecursion, find, list_all}
 use Rattle.std.specs.Option.{option_map, option_map_or}
 use Rattle.std.specs.Prelude.{Box, slice_get, option_and_then}
 use Rattle.std.specs.Box.{box_value}
@@ -21,11 +21,11 @@ use Rattle.clap.specs.declared.parser.matches.SubCommand.{SubCommand}
 use Rattle.clap.specs.declared.parser.matches.ArgMatches.TheViews.{out-ArgMatches, out-SubCommand}
 use Rattle.clap.proofs.WalkLemmas.{both}
 use Rattle.program_words.specs.Words.{Text, Parameter, Row, Argument, argument, row_and_arguments}
-use Rattle.program_words.specs.Rows.{command_rows, uni_row, replay_row, run_row, lockstep_row, asm_row, elf_row, load_row}
+use Rattle.program_words.specs.Rows.{command_rows}
 use Rattle.program_words.specs.Commands.{Command, request_from, request_of, request_with}
 use Rattle.program_words.specs.Parser.{program, row_of, rows, rows_of_words}
 use Rattle.program_words.specs.Views.{request_in}
-use Rattle.program_words.proofs.RowRules.{are_distinct, by_name, by_own_id, by_place, optional, placed, row_rules}
+use Rattle.program_words.proofs.RowRules.{are_distinct, by_name, by_own_id, by_place, found_row, optional, placed, row_rules}
 use Rattle.program_words.proofs.Uses.{is_small}
 use Rattle.program_words.proofs.Turns.{IsSound, unless}
 use Rattle.program_words.proofs.Agrees.{AreTexts}
@@ -68,45 +68,20 @@ sound row few apart operands options = record {
   };
 }
 
-uni_sound : IsSound uni_row
-uni_sound = sound uni_row (omega arith) refl refl refl
+-- the numbers of a row are small, and its rules are apart
+abbrev is_fine : Row → Bool
+is_fine row = (nat_lt (length row.operands) 1000 && are_distinct (row_rules row)) && (are_small row.operands && are_small row.options)
 
-replay_sound : IsSound replay_row
-replay_sound = sound replay_row (omega arith) refl refl refl
-
-run_sound : IsSound run_row
-run_sound = sound run_row (omega arith) refl refl refl
-
-lockstep_sound : IsSound lockstep_row
-lockstep_sound = sound lockstep_row (omega arith) refl refl refl
-
-asm_sound : IsSound asm_row
-asm_sound = sound asm_row (omega arith) refl refl refl
-
-elf_sound : IsSound elf_row
-elf_sound = sound elf_row (omega arith) refl refl refl
-
-load_sound : IsSound load_row
-load_sound = sound load_row (omega arith) refl refl refl
-
-more_sound : (r : Row) (table : List Row) → IsSound r → AreSound table → AreSound (r ∷ table)
-more_sound r table one rest word row found = go (bytes_eq r.word word) found
-  where
-    go : (b : Bool) → cond b (Some r) (find (λ q. bytes_eq q.word word) table) ≡ Some row → IsSound row
-    go true f = let same : r ≡ row = cc in subst IsSound same one
-    go false f = rest word row f
-
-none_sound : AreSound []
-none_sound word row found = absurd (cc)
+all_sound : (table : List Row) → list_all is_fine table ≡ true → AllByRecursion IsSound table
+all_sound [] fine = tt
+all_sound (row ∷ table) fine =
+    let here = both _ _ (both _ _ fine).0 in
+    let rules = both _ _ here.0 in
+    let values = both _ _ here.1 in
+    (sound row (ltb-true _ _ rules.0) rules.1 values.0 values.1, all_sound table (both _ _ fine).1)
 
 rows_sound : AreSound command_rows
-rows_sound =
-    more_sound uni_row (replay_row ∷ run_row ∷ lockstep_row ∷ asm_row ∷ elf_row ∷ load_row ∷ []) uni_sound
-    (more_sound replay_row (run_row ∷ lockstep_row ∷ asm_row ∷ elf_row ∷ load_row ∷ []) replay_sound
-    (more_sound run_row (lockstep_row ∷ asm_row ∷ elf_row ∷ load_row ∷ []) run_sound
-    (more_sound lockstep_row (asm_row ∷ elf_row ∷ load_row ∷ []) lockstep_sound
-    (more_sound asm_row (elf_row ∷ load_row ∷ []) asm_sound
-    (more_sound elf_row (load_row ∷ []) elf_sound (more_sound load_row [] load_sound none_sound))))))
+rows_sound = found_row IsSound command_rows (all_sound command_rows refl)
 
 -- ---- the parser
 

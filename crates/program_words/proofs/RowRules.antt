@@ -1,6 +1,6 @@
 -- What clap reads of a row's operands and options, once it has built them, and what it finds among them.
-use Rattle.std.proofs.Common.{◌≡◌, ◌+◌, ◌&&◌, ◌||◌, ℕ, Bool, cond, true, false, not, zero, suc, refl, sym, ap, arith, List, [], ◌∷◌, map, Option, Some, None, true≢false, nat_eq, ne_eqb, eq-eqb}
-use Rattle.std.specs.List.{find, list_any}
+use Rattle.std.proofs.Common.{◌≡◌, ◌+◌, ◌&&◌, ◌||◌, ℕ, Bool, cond, true, false, not, zero, suc, refl, sym, ap, arith, List, [], ◌∷◌, map, Option, Some, None, true≢false, nat_eq, ne_eqb, eq-eqb, subst}
+use Rattle.std.specs.List.{AllByRecursion, find, list_any}
 use Rattle.std.specs.Option.{option_map}
 use Rattle.std.specs.Prelude.{slice_get}
 use Rattle.std.specs.Str.{bytes_eq}
@@ -42,6 +42,17 @@ placed_from i (p ∷ ps) rest = placed i p ∷ placed_from (i + 1) ps rest
 
 abbrev pub row_rules : Row → List Rule
 row_rules row = placed_from 1 row.operands (map optional row.options)
+
+-- ---- by word
+
+-- what holds of each row of a table holds of the row that is found in it
+pub found_row : (P : Row → Type 0) (table : List Row) → AllByRecursion P table → (word : Text) (row : Row) → find (λ r. bytes_eq r.word word) table ≡ Some row → P row
+found_row P [] all word row found = absurd (cc)
+found_row P (q ∷ table) all word row found = go (bytes_eq q.word word) (found_row P table all.1 word row) found
+  where
+    go : (b : Bool) → (find (λ r. bytes_eq r.word word) table ≡ Some row → P row) → cond b (Some q) (find (λ r. bytes_eq r.word word) table) ≡ Some row → P row
+    go true later f = let same : q ≡ row = cc in subst P same all.0
+    go false later f = later f
 
 -- ---- by place
 

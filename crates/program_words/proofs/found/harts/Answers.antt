@@ -1,17 +1,8 @@
-use Rattle.std.proofs.Common.{◌≡◌, ◌∙◌, ℕ, Option, refl, ap, arith, codes, option_and_then, unwrap_or}
-use Rattle.std.specs.Str.Parse.{ExplainsUnsignedError, HasUnsignedDigitsIfOk, ParsesUnsigned}
-use Rattle.clap.specs.Words.{found_of}
-use Rattle.clap.proofs.WalkLemmas.{one_text-rows}
-use Rattle.program_words.specs.Commands.{number_to}
-use Rattle.program_words.specs.Parser.{numbers_in}
-use Rattle.program_words.proofs.Numbers.{number_read}
+use Rattle.std.proofs.Common.{◌∙◌, ℕ, Option, refl, ap, arith, codes, unwrap_or}
+use Rattle.program_words.proofs.Numbers.{number_found}
 use Rattle.program_words.proofs.found.harts.Goals as goal
 
 pub returns : goal.returns
 returns c =
-    let read : c.get_one.result ≡ option_and_then (number_to 255) (numbers_in c.args.found.now (codes "harts")) =
-    number_read 8 255 refl (omega arith) (λ bs r. ParsesUnsigned 8 10 bs r × ExplainsUnsignedError 10 bs r × HasUnsignedDigitsIfOk bs r) (λ t r g. g.0)
-    (numbers_in c.args.found.now (codes "harts")) c.get_one.result
-    (λ e. c.get_one.ensures.none (one_text-rows (found_of c.args.found.now) (codes "harts") ∙ e))
-    (λ t e. c.get_one.ensures.value t (one_text-rows (found_of c.args.found.now) (codes "harts") ∙ e)) in
-    c.unwrap_or.ensures ∙ ap (λ (o : Option ℕ). unwrap_or o 1) read
+    c.unwrap_or.ensures ∙ ap (λ (o : Option ℕ). unwrap_or o 1)
+    (number_found 8 255 refl (omega arith) c.args.found.now (codes "harts") c.get_one.result c.get_one.ensures.none c.get_one.ensures.value)
