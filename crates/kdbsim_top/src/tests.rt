@@ -178,3 +178,32 @@ fn an_executable_is_converted_and_run(rt: HostRuntime) -> Result<(), Fail> {
     assert_eq!(rt; sink.bytes(), CONVERTED.as_bytes());
     Ok(())
 }
+
+/// Stores below and above each bound of a page: the 8,200 bytes of data are pages of 4,096, 4,096 and 8 bytes.
+const PAGES: &str = "kimg 1\ntext 0x1000 32\nw 0x00003537 0xfea53c23 0x00a53023 0x000045b7\n\
+w 0xfeb5bc23 0x00b5b023 0x00100073 0x00000073\ndata 0x2000 8200\n";
+
+const STORED: &str = "Entering kdb on processor 0 due to Start @ 0x0000000000001000
+[0]kdb> go
+Entering kdb on processor 0 due to Compiled breakpoint @ 0x0000000000001018
+[0]kdb> md8 2ff8 1
+0x0000000000002ff8 0000000000003000 0000000000003000  .0.......0......
+[0]kdb> md8 3ff8 1
+0x0000000000003ff8 0000000000004000 0000000000004000  .@.......@......
+[0]kdb> go
+kdbsim: all halted after 8 steps\n";
+
+#[test]
+fn stores_at_the_bounds_of_pages(rt: HostRuntime) -> Result<(), Fail> {
+    let alloc = rt.alloc();
+    let mut files = Vec::new(alloc);
+    files.push(named(alloc, "i", PAGES.as_bytes())?)?;
+    files.push(named(alloc, "s", b"go\nmd8 2ff8 1\nmd8 3ff8 1\ngo\n")?)?;
+    let mut shelf = MemShelf::new(alloc, files, Vec::new(alloc));
+    let mut sink = MemSink::new(alloc, Vec::new(alloc), 0);
+    let words = words(alloc, "uni i s")?;
+    let status = alone(alloc, words.as_slice(), &mut shelf, &mut sink);
+    assert!(rt; status == Some(Status::Done(Ending::AllHalted)));
+    assert_eq!(rt; sink.bytes(), STORED.as_bytes());
+    Ok(())
+}
