@@ -1,9 +1,9 @@
 -- The master before its session: the check of its trap, the shutting of the gate and the calls.
-use Rattle.std.proofs.Common.{◌≡◌, ℕ, suc, ◌+◌, ◌-◌, ◌*◌, ◌%◌, ◌^◌, ◌<◌, ◌≤◌, ◌==◌, ◌&&◌, ◌⊎◌, Bool, true, false, not, nat_lt, refl, sym, ◌∙◌, ap, subst, inl, inr, arith, if◌then◌else◌, Option, None, is_some}
+use Rattle.std.proofs.Common.{◌≡◌, ℕ, suc, ◌+◌, ◌-◌, ◌*◌, ◌%◌, ◌^◌, ◌<◌, ◌≤◌, ◌==◌, ◌&&◌, ◌⊎◌, Bool, true, false, not, nat_lt, refl, sym, ◌∙◌, ap, subst, inl, inr, arith, if◌then◌else◌, None, is_some}
 use Rattle.std.proofs.lemmas.Bool.{cases_eq, cases_lt, cases_Bool, eq-eqb, ne_eqb, eqb-false, ltb-true, ltb-false, lt-ltb, le-ltb, both_ways, and_parts, or_right, not-true, cond-true, cond-false}
 use Rattle.std.proofs.lemmas.Nat.{pow_pos}
 use Rattle.mach_base.specs.Masks.{has_bit, mask_with, all_but}
-use Rattle.deck_core.specs.ticks.Phases.{is_shut, is_in_session, has_read, is_at_gate, holds, counts, called}
+use Rattle.deck_core.specs.ticks.Phases.{is_masters, own_word, is_shut, is_in_session, has_read, is_at_gate, KeepsOldNumber, holds, counts, called}
 use Rattle.deck_core.specs.contract.Told.{Told, IsTold}
 use Rattle.deck_core.specs.ticks.Configuration.{Configuration, put}
 use Rattle.deck_core.specs.contract.Calls.{Changes, sent}
@@ -12,11 +12,11 @@ use Rattle.deck_core.specs.ticks.NextPhase.{check_answer, after_check, after_sen
 use Rattle.deck_core.specs.Invariant.{Sound, MarkFits, LeadFits, KeepsInRange, LateFits, PlantedFits, StepFits, bit, openings}
 use Rattle.deck_core.specs.declared.plain.phase.Phase.{Phase}
 use Rattle.deck_core.specs.declared.plain.phase.Phase.TheVariants as phase
-use Rattle.deck_core.specs.laws.Keeps.{OwnKeeps, ShutKeeps, SendKeeps}
+use Rattle.deck_core.specs.laws.Keeps.{KeepsIn}
 use Rattle.mach_base.proofs.Bits.{has_bit-zero, has_bit-with_same, has_bit-all_but_inside, all_but-lt, mask_with-lt}
-use Rattle.deck_core.proofs.Frame.{stays, Mine, mine, master_moves, master_gives}
+use Rattle.deck_core.proofs.Frame.{stays, Mine, mine, MasterStep, master_moves, master_gives}
 use Rattle.deck_core.proofs.Transactions.{tick_at, call_keeps}
-use Rattle.deck_core.proofs.Outside.{own_of, no_session}
+use Rattle.deck_core.proofs.Outside.{own_of, no_marks, quiet_working, lead_on}
 
 -- a master in a phase in which it counts nobody
 pub uncounted : (harts mask gate m k : ℕ) (lead lead2 p : Phase) → counts harts lead2 k ≡ false → MarkFits harts mask gate m lead p k → MarkFits harts mask gate m lead2 p k
@@ -25,11 +25,15 @@ uncounted harts mask gate m k lead lead2 p none f = record {
   masked = f.masked;
 }
 
--- no hart is in an empty mask, and none is counted
-pub no_marks : (harts mask gate m k : ℕ) (lead p : Phase) → mask ≡ 0 → counts harts lead k ≡ false → MarkFits harts mask gate m lead p k
-no_marks harts mask gate m k lead p empty none = record {
-  gathered = λ e. absurd (both_ways (counts harts lead k) none ((and_parts (counts harts lead k) (not (m == suc k)) e).0));
-  masked = λ e. absurd (both_ways (has_bit mask k) (ap (λ x. has_bit x k) empty ∙ has_bit-zero k) e);
+-- a step of the master over which its own word stays
+pub own_stays : (c : Configuration) (h : ℕ) (from p : Phase) (gate : ℕ) (b : Told) → Sound c → c.phase h ≡ from → own_word from ≡ own_word p → is_masters p ≡ true → KeepsOldNumber gate p → c.gate ≤ gate → ((k : ℕ) → (k ≡ h → ⊥) → MarkFits b.harts b.mask gate (suc h) p (c.phase k) k) → LeadFits c.limit (suc h) gate p b → MasterStep c h p gate c.own b
+own_stays c h from p gate b s e same masters old grows marks lead = record {
+  next = masters;
+  old_number = old;
+  own_moves = stays c.own h (own_word p) (own_of c h from s e ∙ same);
+  gate_grows = grows;
+  marks = marks;
+  lead_fits = lead;
 }
 
 pub bit_and_false : (b : Bool) → bit (b && false) ≡ 0
@@ -53,54 +57,23 @@ to_shut c h f t =
           (let g : openings c.gate ≤ c.told.lines + bit (false && true) = subst (λ b. openings c.gate ≤ c.told.lines + bit (b && true)) working f.lines in
           omega (arith, g));
       sends = f.sends;
-      working = λ w. record {
-        session = no_session (suc h) (suc h) phase.Own phase.Shut c.told.faults c.told.session (λ b at. refl) refl (f.working w).session;
-        planted = (f.working w).planted;
-        step = (f.working w).step;
-        read = λ x. absurd (both_ways false refl x);
-      };
+      working = λ w. quiet_working (suc h) (suc h) c.gate c.gate phase.Own phase.Shut c.told c.told.sends (λ b at. refl) refl refl (λ x. x) (λ x. x) (f.working w);
     }
 
-to_drop : (c : Configuration) (h : ℕ) → LeadFits c.limit (suc h) c.gate phase.Own c.told → LeadFits c.limit (suc h) c.gate phase.Drop c.told
-to_drop c h f = record {
-  range = tt;
-  low = f.low;
-  parity = f.parity;
-  mask = f.mask;
-  trap = λ x. absurd (both_ways false refl x);
-  lines = f.lines;
-  sends = f.sends;
-  working = λ w. record {
-    session = no_session (suc h) (suc h) phase.Own phase.Drop c.told.faults c.told.session (λ b at. refl) refl (f.working w).session;
-    planted = (f.working w).planted;
-    step = (f.working w).step;
-    read = λ x. absurd (both_ways false refl x);
-  };
-}
+-- the check was made, and the master goes on to this phase
+check_gives : (c : Configuration) (h : ℕ) (p : Phase) → Sound c → c.phase h ≡ phase.Own → holds (c.place h) ≡ true → 1 ≡ own_word p → is_masters p ≡ true → KeepsOldNumber c.gate p → ((k : ℕ) → counts c.told.harts p k ≡ false) → (LeadFits c.limit (suc h) c.gate phase.Own c.told → LeadFits c.limit (suc h) c.gate p c.told) → Sound (gives h p c.told c)
+check_gives c h p s e held own masters old none lead =
+    let i : Mine c h phase.Own = mine c h phase.Own s e refl in
+    master_gives c h phase.Own p c.told s i
+    (own_stays c h phase.Own p c.gate c.told s e own masters old (omega arith)
+    (λ k ne. uncounted c.told.harts c.told.mask c.gate (suc h) k phase.Own p (c.phase k) (none k) (i.marks k)) (lead i.lead)) s.told held refl (λ o. o)
 
 checked : (c : Configuration) (h : ℕ) → Sound c → c.phase h ≡ phase.Own → holds (c.place h) ≡ true → (trapped : Bool) → trapped ≡ (not c.told.over && has_bit c.told.traps h) → Sound (gives h (after_check trapped) c.told c)
-checked c h s e held true t =
-    let i : Mine c h phase.Own = mine c h phase.Own s e refl in
-    master_gives c h phase.Own phase.Shut c.told s i (record {
-      next = refl;
-      old_number = tt;
-      own_moves = stays c.own h 1 (own_of c h phase.Own s e);
-      gate_grows = omega arith;
-      marks = λ k ne. uncounted c.told.harts c.told.mask c.gate (suc h) k phase.Own phase.Shut (c.phase k) refl (i.marks k);
-      lead_fits = to_shut c h i.lead (sym t);
-    }) s.told held refl (λ o. o)
+checked c h s e held true t = check_gives c h phase.Shut s e held refl refl tt (λ k. refl) (λ f. to_shut c h f (sym t))
 checked c h s e held false t =
-    let i : Mine c h phase.Own = mine c h phase.Own s e refl in
-    master_gives c h phase.Own phase.Drop c.told s i (record {
-      next = refl;
-      old_number = tt;
-      own_moves = stays c.own h 1 (own_of c h phase.Own s e);
-      gate_grows = omega arith;
-      marks = λ k ne. uncounted c.told.harts c.told.mask c.gate (suc h) k phase.Own phase.Drop (c.phase k) refl (i.marks k);
-      lead_fits = to_drop c h i.lead;
-    }) s.told held refl (λ o. o)
+    check_gives c h phase.Drop s e held refl refl tt (λ k. refl) (λ f. lead_on c.limit (suc h) (suc h) c.gate phase.Own phase.Drop c.told c.told.sends f tt refl refl refl (λ x. absurd (both_ways false refl x)) (omega arith) (λ b at. refl) refl refl (λ x. x) (λ x. x))
 
-pub own_keeps : OwnKeeps
+pub own_keeps : KeepsIn phase.Own
 own_keeps c h a after s lt e honest = tick_at c h phase.Own a after e
     (call_keeps c h phase.Own a after s e refl honest
     (λ held acts.
@@ -154,7 +127,7 @@ called_first harts h =
     ]
 
 -- the gate is shut: the number becomes odd, and nothing was opened
-shut_lead : (c : Configuration) (h : ℕ) (p : Phase) → LeadFits c.limit (suc h) c.gate phase.Shut c.told → KeepsInRange c.limit c.told.harts (suc h) p → is_shut p ≡ true → is_at_gate p ≡ true → is_in_session p ≡ false → has_read p ≡ false → called c.told.harts (suc h) p ≡ 0 → ((planted enabled : ℕ) → planted ≡ enabled → PlantedFits planted enabled p) → ((step next : Option ℕ) (plantable stepped : Bool) → step ≡ None → StepFits step next plantable stepped p) → LeadFits c.limit (suc h) (suc c.gate) p c.told
+shut_lead : (c : Configuration) (h : ℕ) (p : Phase) → LeadFits c.limit (suc h) c.gate phase.Shut c.told → KeepsInRange c.limit c.told.harts (suc h) p → is_shut p ≡ true → is_at_gate p ≡ true → is_in_session p ≡ false → has_read p ≡ false → called c.told.harts (suc h) p ≡ 0 → (c.told.planted ≡ c.told.enabled → PlantedFits c.told.planted c.told.enabled p) → (c.told.step ≡ None → StepFits c.told.step c.told.next c.told.plantable c.told.stepped p) → LeadFits c.limit (suc h) (suc c.gate) p c.told
 shut_lead c h p f range shut gate inside unread none planted step =
     let even : c.gate % 2 ≡ 0 = f.parity in
     let same : openings (suc c.gate) ≡ openings c.gate = omega (arith, even, f.low) in
@@ -172,49 +145,34 @@ shut_lead c h p f range shut gate inside unread none planted step =
           (let g : c.told.sends ≤ (c.told.harts - 1) * openings c.gate + 0 = f.sends in
           subst (λ o. c.told.sends ≤ (c.told.harts - 1) * o + called c.told.harts (suc h) p) (sym same)
           (subst (λ n. c.told.sends ≤ (c.told.harts - 1) * openings c.gate + n) (sym none) g));
-      working = λ w. record {
-        session = no_session (suc h) (suc h) phase.Shut p c.told.faults c.told.session (λ b at. refl) inside (f.working w).session;
-        planted = planted c.told.planted c.told.enabled (f.working w).planted;
-        step = step c.told.step c.told.next c.told.plantable c.told.stepped (f.working w).step;
-        read = λ x. absurd (both_ways (has_read p) unread x);
-      };
+      working = λ w. quiet_working (suc h) (suc h) c.gate (suc c.gate) phase.Shut p c.told c.told.sends (λ b at. refl) inside unread planted step (f.working w);
     }
 
 shut_in : (c : Configuration) (h : ℕ) → Sound c → c.phase h ≡ phase.Shut → (more : Bool) → nat_lt (skipping h 0) c.told.harts ≡ more → Sound (record c { gate = suc c.gate; phase = put c.phase h (if more then phase.Send (skipping h 0) else entering c.told.harts h 0) })
 shut_in c h s e true t =
     let i : Mine c h phase.Shut = mine c h phase.Shut s e refl in
-    master_moves c h phase.Shut (phase.Send (skipping h 0)) (suc c.gate) c.own s i (record {
-      next = refl;
-      old_number = tt;
-      own_moves = stays c.own h 1 (own_of c h phase.Shut s e);
-      gate_grows = omega arith;
-      marks = λ k ne. no_marks c.told.harts c.told.mask (suc c.gate) (suc h) k (phase.Send (skipping h 0)) (c.phase k) (i.lead.mask refl) refl;
-      lead_fits = shut_lead c h (phase.Send (skipping h 0)) i.lead
-          (record { below = ltb-true (skipping h 0) c.told.harts t; other = skipping_other h 0 })
-          refl refl refl refl (called_first c.told.harts h) (λ x y z. z) (λ x y z w v. v);
-    })
+    master_moves c h phase.Shut (phase.Send (skipping h 0)) (suc c.gate) c.own s i
+    (own_stays c h phase.Shut (phase.Send (skipping h 0)) (suc c.gate) c.told s e refl refl tt (omega arith)
+    (λ k ne. no_marks c.told.harts c.told.mask (suc c.gate) (suc h) k (phase.Send (skipping h 0)) (c.phase k) (i.lead.mask refl) refl)
+    (shut_lead c h (phase.Send (skipping h 0)) i.lead (record { below = ltb-true (skipping h 0) c.told.harts t; other = skipping_other h 0 })
+    refl refl refl refl (called_first c.told.harts h) (λ x. x) (λ x. x)))
 shut_in c h s e false t =
     let i : Mine c h phase.Shut = mine c h phase.Shut s e refl in
     let one : c.told.harts ≤ skipping h 0 = ltb-false (skipping h 0) c.told.harts t in
     let alone : c.told.harts ≡ 1 = elim (skipping_is h 0) [ inl a ↦ omega (arith, a.0, a.1, one, s.told.some_harts) | inr a ↦ omega (arith, a.1, one, s.told.some_harts) ] in
     let late : ℕ = all_but c.told.harts (mask_with 0 h) in
-    master_moves c h phase.Shut (entering c.told.harts h 0) (suc c.gate) c.own s i (record {
-      next = refl;
-      old_number = tt;
-      own_moves = stays c.own h 1 (own_of c h phase.Shut s e);
-      gate_grows = omega arith;
-      marks = λ k ne. record {
-        gathered = λ x.
-            let p = and_parts (nat_lt k c.told.harts) (not (has_bit late k)) ((and_parts (counts c.told.harts (entering c.told.harts h 0) k) (not (suc h == suc k)) x).0) in
-            absurd (ne (omega (arith, ltb-true k c.told.harts p.0, alone, i.below)));
-        masked = λ x. absurd (both_ways (has_bit c.told.mask k) (ap (λ m. has_bit m k) (i.lead.mask refl) ∙ has_bit-zero k) x);
-      };
-      lead_fits = shut_lead c h (entering c.told.harts h 0) i.lead
-          (late_others c.told.harts h 0 (pow_pos c.told.harts) i.below)
-          refl refl refl refl (omega (arith, alone)) (λ x y z. z) (λ x y z w v. v);
+    master_moves c h phase.Shut (entering c.told.harts h 0) (suc c.gate) c.own s i
+    (own_stays c h phase.Shut (entering c.told.harts h 0) (suc c.gate) c.told s e refl refl tt (omega arith)
+    (λ k ne. record {
+      gathered = λ x.
+          let p = and_parts (nat_lt k c.told.harts) (not (has_bit late k)) ((and_parts (counts c.told.harts (entering c.told.harts h 0) k) (not (suc h == suc k)) x).0) in
+          absurd (ne (omega (arith, ltb-true k c.told.harts p.0, alone, i.below)));
+      masked = λ x. absurd (both_ways (has_bit c.told.mask k) (ap (λ m. has_bit m k) (i.lead.mask refl) ∙ has_bit-zero k) x);
     })
+    (shut_lead c h (entering c.told.harts h 0) i.lead (late_others c.told.harts h 0 (pow_pos c.told.harts) i.below)
+    refl refl refl refl (omega (arith, alone)) (λ x. x) (λ x. x)))
 
-pub shut_keeps : ShutKeeps
+pub shut_keeps : KeepsIn phase.Shut
 shut_keeps c h a after s lt e honest = tick_at c h phase.Shut a after e (shut_in c h s e (nat_lt (skipping h 0) c.told.harts) refl)
 
 -- ---- Send
@@ -243,57 +201,31 @@ called_last harts h to lt lt2 other over =
       | inr a ↦ elim (called_is harts h to) [ inl d ↦ omega (arith, a.0, a.1, d.0, d.1, ne, over, lt, lt2) | inr d ↦ omega (arith, a.0, a.1, d.0, d.1, ne, over, lt, lt2) ]
     ]
 
--- a call was sent, or an ending stands; more calls may be counted after it
-send_lead : (limit h gate to : ℕ) (p : Phase) (b : Told) (sends : ℕ) → LeadFits limit (suc h) gate (phase.Send to) b → KeepsInRange limit b.harts (suc h) p → sends ≤ suc b.sends → suc (called b.harts (suc h) (phase.Send to)) ≤ called b.harts (suc h) p → is_shut p ≡ true → is_at_gate p ≡ true → is_in_session p ≡ false → has_read p ≡ false → ((planted enabled : ℕ) → planted ≡ enabled → PlantedFits planted enabled p) → ((step next : Option ℕ) (plantable stepped : Bool) → step ≡ None → StepFits step next plantable stepped p) → LeadFits limit (suc h) gate p (record b { sends = sends })
-send_lead limit h gate to p b sends f range one more shut at_gate inside unread planted step = record {
-  range = range;
-  low = f.low;
-  parity = f.parity ∙ sym (ap bit shut);
-  mask = λ x. f.mask refl;
-  trap = λ x. f.trap refl;
-  lines = subst (λ x. openings gate ≤ b.lines + bit (b.over && not x)) (sym at_gate) f.lines;
-  sends = omega (arith, f.sends, one, more);
-  working = λ w. record {
-    session = no_session (suc h) (suc h) (phase.Send to) p b.faults b.session (λ x at. refl) inside (f.working w).session;
-    planted = planted b.planted b.enabled (f.working w).planted;
-    step = step b.step b.next b.plantable b.stepped (f.working w).step;
-    read = λ x. absurd (both_ways (has_read p) unread x);
-  };
-}
-
 send_in : (c : Configuration) (h to : ℕ) (sends : ℕ) → Sound c → c.phase h ≡ phase.Send to → holds (c.place h) ≡ true → sends ≤ suc c.told.sends → IsTold (record c.told { sends = sends }) → (more : Bool) → nat_lt (skipping h (to + 1)) c.told.harts ≡ more → Sound (gives h (if more then phase.Send (skipping h (to + 1)) else first_look h) (record c.told { sends = sends }) c)
 send_in c h to sends s e held one fits true t =
     let i : Mine c h (phase.Send to) = mine c h (phase.Send to) s e refl in
-    master_gives c h (phase.Send to) (phase.Send (skipping h (to + 1))) (record c.told { sends = sends }) s i (record {
-      next = refl;
-      old_number = tt;
-      own_moves = stays c.own h 1 (own_of c h (phase.Send to) s e);
-      gate_grows = omega arith;
-      marks = λ k ne. uncounted c.told.harts c.told.mask c.gate (suc h) k (phase.Send to) (phase.Send (skipping h (to + 1))) (c.phase k) refl (i.marks k);
-      lead_fits = send_lead c.limit h c.gate to (phase.Send (skipping h (to + 1))) c.told sends i.lead
-          (record { below = ltb-true (skipping h (to + 1)) c.told.harts t; other = skipping_other h (to + 1) }) one
-          (omega (arith, called_next c.told.harts h to i.lead.range.other)) refl refl refl refl (λ x y z. z) (λ x y z w v. v);
-    })
+    master_gives c h (phase.Send to) (phase.Send (skipping h (to + 1))) (record c.told { sends = sends }) s i
+    (own_stays c h (phase.Send to) (phase.Send (skipping h (to + 1))) c.gate (record c.told { sends = sends }) s e refl refl tt (omega arith)
+    (λ k ne. uncounted c.told.harts c.told.mask c.gate (suc h) k (phase.Send to) (phase.Send (skipping h (to + 1))) (c.phase k) refl (i.marks k))
+    (lead_on c.limit (suc h) (suc h) c.gate (phase.Send to) (phase.Send (skipping h (to + 1))) c.told sends i.lead
+    (record { below = ltb-true (skipping h (to + 1)) c.told.harts t; other = skipping_other h (to + 1) }) refl refl refl (λ x. i.lead.trap refl)
+    (omega (arith, one, called_next c.told.harts h to i.lead.range.other)) (λ b at. refl) refl refl (λ x. x) (λ x. x)))
     fits held refl (λ o. o)
 send_in c h to sends s e held one fits false t =
     let i : Mine c h (phase.Send to) = mine c h (phase.Send to) s e refl in
     let ne : h ≡ to → ⊥ = λ x. eqb-false (suc h) (suc to) i.lead.range.other (ap suc x) in
     let two : skipping h 0 < c.told.harts = elim (skipping_is h 0) [ inl a ↦ omega (arith, a.0, a.1, ne, i.lead.range.below) | inr a ↦ omega (arith, a.1, s.told.some_harts) ] in
-    master_gives c h (phase.Send to) (first_look h) (record c.told { sends = sends }) s i (record {
-      next = refl;
-      old_number = tt;
-      own_moves = stays c.own h 1 (own_of c h (phase.Send to) s e);
-      gate_grows = omega arith;
-      marks = λ k ne. uncounted c.told.harts c.told.mask c.gate (suc h) k (phase.Send to) (first_look h) (c.phase k) (has_bit-zero k) (i.marks k);
-      lead_fits = send_lead c.limit h c.gate to (first_look h) c.told sends i.lead
-          (record {
-            next = record { below = two; other = skipping_other h 0 };
-            rounds = s.limit;
-            gathered = pow_pos c.told.harts;
-            others = λ k x. absurd (both_ways (has_bit 0 k) (has_bit-zero k) x);
-          }) one
-          (called_last c.told.harts h to i.below i.lead.range.below i.lead.range.other (ltb-false (skipping h (to + 1)) c.told.harts t)) refl refl refl refl (λ x y z. z) (λ x y z w v. v);
-    })
+    master_gives c h (phase.Send to) (first_look h) (record c.told { sends = sends }) s i
+    (own_stays c h (phase.Send to) (first_look h) c.gate (record c.told { sends = sends }) s e refl refl tt (omega arith)
+    (λ k ne. uncounted c.told.harts c.told.mask c.gate (suc h) k (phase.Send to) (first_look h) (c.phase k) (has_bit-zero k) (i.marks k))
+    (lead_on c.limit (suc h) (suc h) c.gate (phase.Send to) (first_look h) c.told sends i.lead
+    (record {
+      next = record { below = two; other = skipping_other h 0 };
+      rounds = s.limit;
+      gathered = pow_pos c.told.harts;
+      others = λ k x. absurd (both_ways (has_bit 0 k) (has_bit-zero k) x);
+    }) refl refl refl (λ x. i.lead.trap refl)
+    (omega (arith, one, called_last c.told.harts h to i.below i.lead.range.below i.lead.range.other (ltb-false (skipping h (to + 1)) c.told.harts t))) (λ b at. refl) refl refl (λ x. x) (λ x. x)))
     fits held refl (λ o. o)
 
 send_done : (c : Configuration) (h to : ℕ) (after : Told) → Sound c → c.phase h ≡ phase.Send to → holds (c.place h) ≡ true → Changes c.told after (sent c.told) → IsTold after → Sound (gives h (after_send c.told.harts h to) after c)
@@ -305,7 +237,7 @@ send_done c h to after s e held g fits =
           (send_in c h to (suc c.told.sends) s e held (omega arith) (subst IsTold (g.working w) fits) (nat_lt (skipping h (to + 1)) c.told.harts) refl)
     ]
 
-pub send_keeps : SendKeeps
+pub send_keeps : (to : ℕ) → KeepsIn (phase.Send to)
 send_keeps to c h a after s lt e honest = tick_at c h (phase.Send to) a after e
     (call_keeps c h (phase.Send to) a after s e refl honest
     (λ held acts. send_done c h to after s e held acts.does.1 acts.fits))

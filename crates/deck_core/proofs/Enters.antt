@@ -7,7 +7,7 @@ use Rattle.deck_core.specs.contract.Told.{Told, IsTold}
 use Rattle.deck_core.specs.ticks.Configuration.{Configuration}
 use Rattle.deck_core.specs.ticks.Tick.{gives}
 use Rattle.deck_core.specs.ticks.NextPhase.{pulling, after_enter, enter_answer}
-use Rattle.deck_core.specs.Invariant.{Sound, Working, KeepsInRange, LateFits, StepFits, session_fits, stage_fits, bit, openings}
+use Rattle.deck_core.specs.Invariant.{Sound, Working, KeepsInRange, LateFits, LeftFits, StepFits, session_fits, stage_fits, bit, openings}
 use Rattle.deck_core.specs.declared.plain.notes.Sitting.{Sitting}
 use Rattle.deck_core.specs.declared.plain.notes.Stage.{Stage}
 use Rattle.deck_core.specs.declared.plain.notes.Stage.TheVariants as stage
@@ -16,7 +16,7 @@ use Rattle.deck_core.specs.declared.plain.phase.Phase.TheVariants as phase
 use Rattle.deck_core.specs.declared.plain.phase.Kept.{Kept}
 use Rattle.deck_core.specs.declared.plain.phase.Then.{Then}
 use Rattle.deck_core.specs.contract.Calls.{EnterGives, opened, mask_inside}
-use Rattle.deck_core.specs.laws.Keeps.{EnterKeeps}
+use Rattle.deck_core.specs.laws.Keeps.{KeepsIn}
 use Rattle.deck_core.specs.declared.plain.act.Entered.{Entered}
 use Rattle.mach_base.proofs.Bits.{has_bit-all_but_inside, all_but-lt, has_bit-below}
 use Rattle.deck_core.proofs.Frame.{stays, Mine, mine, master_gives}
@@ -141,19 +141,23 @@ opened_working m gate h kept b mask planted traps faults next plantable step sam
   read = λ x. absurd (both_ways false refl x);
 }
 
-pub pulling_inside : (kept : Kept) (left : ℕ) (zero_left : Bool) → Inside (if zero_left then phase.Lines kept else phase.Pull kept left)
-pulling_inside kept left true = lines_inside kept
-pulling_inside kept left false = pull_inside kept left
+-- the master, with this number plus 1, may go on to this phase of its session
+pub record GoesInside (limit harts m : ℕ) (p : Phase) : Type 0 where
+  pub inside : Inside p
+  pub session : is_in_session p ≡ true
+  pub range : KeepsInRange limit harts m p
 
-pub pulling_session : (kept : Kept) (left : ℕ) (zero_left : Bool) → is_in_session (if zero_left then phase.Lines kept else phase.Pull kept left) ≡ true
-pulling_session kept left true = refl
-pulling_session kept left false = refl
-
-pub pulling_range : (limit harts m : ℕ) (kept : Kept) (left : ℕ) → LateFits harts m kept.late → left < 2 ^ 16 → (zero_left : Bool) → (left == 0) ≡ zero_left → KeepsInRange limit harts m (if zero_left then phase.Lines kept else phase.Pull kept left)
-pulling_range limit harts m kept left f lt true z = f
-pulling_range limit harts m kept left f lt false z =
+-- places are left for this phase, or none are, and the other one follows
+pub left_goes : (limit harts m left : ℕ) (done more : Phase) → GoesInside limit harts m done → (LeftFits left → GoesInside limit harts m more) → left < 2 ^ 16 → (zero_left : Bool) → (left == 0) ≡ zero_left → GoesInside limit harts m (if zero_left then done else more)
+left_goes limit harts m left done more d g lt true z = d
+left_goes limit harts m left done more d g lt false z =
     let ne : left ≡ 0 → ⊥ = eqb-false left 0 z in
-    (f, record { some = omega (arith, ne); places = lt })
+    g (record { some = omega (arith, ne); places = lt })
+
+pub pulling_goes : (limit harts m : ℕ) (kept : Kept) (left : ℕ) → LateFits harts m kept.late → left < 2 ^ 16 → (zero_left : Bool) → (left == 0) ≡ zero_left → GoesInside limit harts m (if zero_left then phase.Lines kept else phase.Pull kept left)
+pulling_goes limit harts m kept left f lt z e =
+    left_goes limit harts m left (phase.Lines kept) (phase.Pull kept left) (record { inside = lines_inside kept; session = refl; range = f })
+    (λ l. record { inside = pull_inside kept left; session = refl; range = (f, l) }) lt z e
 
 -- the harts of the mask after the opening are marked
 inside_marked : (c : Configuration) (h : ℕ) (kept : Kept) (reopens : Bool) → Mine c h (phase.Enter kept reopens) → c.told.over ≡ false → (session : Option Sitting) → c.told.session ≡ session → (k : ℕ) → (k ≡ h → ⊥) → has_bit (mask_inside kept.late c.told session) k ≡ true → is_marked c.gate (c.phase k) ≡ true
@@ -178,13 +182,14 @@ entered_in c h kept reopens after s e held w g fits =
     let i : Mine c h (phase.Enter kept reopens) = mine c h (phase.Enter kept reopens) s e refl in
     let z : Bool = c.told.planted == 0 in
     let planted : ℕ = c.told.planted in
-    inside_gives c h (phase.Enter kept reopens) (pulling kept planted) after s e (enter_within kept reopens) (pulling_inside kept planted z) (pulling_session kept planted z) held fits
+    let goes : GoesInside c.limit c.told.harts (suc h) (pulling kept planted) = pulling_goes c.limit c.told.harts (suc h) kept planted i.lead.range s.told.planted z refl in
+    inside_gives c h (phase.Enter kept reopens) (pulling kept planted) after s e (enter_within kept reopens) goes.inside goes.session held fits
     (ap (λ b. b.harts) g)
     (λ k ne x. inside_marked c h kept reopens i w c.told.session refl k ne (ap (λ b. has_bit b.mask k) (sym g) ∙ x))
     (λ o. absurd (both_ways c.told.over w o))
     (subst (λ b. c.told.lines ≤ b.lines) (sym g) (omega arith))
     (ap (λ b. b.sends) g)
-    (pulling_range c.limit c.told.harts (suc h) kept planted i.lead.range s.told.planted z refl)
+    goes.range
     (λ x. subst (λ b. Working (suc h) c.gate (pulling kept planted) b) (sym g)
     (opened_working (suc h) c.gate h kept c.told (mask_inside kept.late c.told c.told.session) planted after.traps after.faults after.next after.plantable
     (enter_step kept reopens c.told.step c.told.next c.told.plantable c.told.stepped (i.lead.working w).step) refl z refl))
@@ -203,7 +208,7 @@ entered_done c h kept reopens r after s e held g fits =
           subst (λ x. Sound (gives h (after_enter kept x) after c)) (sym q.0) (entered_in c h kept reopens after s e held w q.1 fits))
     ]
 
-pub enter_keeps : EnterKeeps
+pub enter_keeps : (kept : Kept) (reopens : Bool) → KeepsIn (phase.Enter kept reopens)
 enter_keeps kept reopens c h a after s lt e honest = tick_at c h (phase.Enter kept reopens) a after e
     (call_keeps c h (phase.Enter kept reopens) a after s e refl honest
     (λ held acts.

@@ -1,5 +1,5 @@
 -- The gathering: a look at the next hart's word, and the end of a round.
-use Rattle.std.proofs.Common.{◌≡◌, ℕ, suc, zero, ◌+◌, ◌-◌, ◌*◌, ◌^◌, ◌<◌, ◌≤◌, ◌==◌, ◌&&◌, ◌||◌, Bool, true, false, not, nat_lt, refl, sym, ◌∙◌, ap, subst, inl, inr, arith, if◌then◌else◌, Option, Some, None}
+use Rattle.std.proofs.Common.{◌≡◌, ℕ, suc, zero, ◌+◌, ◌-◌, ◌^◌, ◌<◌, ◌≤◌, ◌==◌, ◌||◌, Bool, true, false, not, nat_lt, refl, sym, ◌∙◌, ap, subst, inl, inr, arith, if◌then◌else◌, Option, Some, None}
 use Rattle.std.proofs.lemmas.Bool.{cases_eq, cases_Bool, ne_eqb, eqb-true, ltb-true, both_ways, and_parts, and_from, or_cases, not-true, not-false, cond-true, cond-false}
 use Rattle.mach_base.specs.Masks.{has_bit, mask_with, all_but, least_outside}
 use Rattle.deck_core.specs.ticks.Phases.{is_masters, own_word, is_shut, is_in_session, has_read, is_at_gate, is_marked, KeepsOldNumber, counts, called}
@@ -7,16 +7,16 @@ use Rattle.deck_core.specs.contract.Told.{Told}
 use Rattle.deck_core.specs.ticks.Configuration.{Configuration}
 use Rattle.deck_core.specs.ticks.NextPhase.{entering, gathered_after, looks_on, round_over, after_look}
 use Rattle.deck_core.specs.ticks.Tick.{mark_counts, enters}
-use Rattle.deck_core.specs.Invariant.{Sound, LeadFits, KeepsInRange, PlantedFits, StepFits, bit, openings}
+use Rattle.deck_core.specs.Invariant.{Sound, LeadFits, KeepsInRange, PlantedFits, StepFits}
 use Rattle.deck_core.specs.declared.plain.phase.Phase.{Phase}
 use Rattle.deck_core.specs.declared.plain.phase.Phase.TheVariants as phase
 use Rattle.deck_core.specs.declared.plain.phase.Looks.{Looks}
-use Rattle.deck_core.specs.laws.Keeps.{GatherKeeps}
+use Rattle.deck_core.specs.laws.Keeps.{KeepsIn}
 use Rattle.mach_base.proofs.Bits.{has_bit-with_same, has_bit-with_other, has_bit-all_but_inside, mask_with-lt}
-use Rattle.deck_core.proofs.Frame.{stays, Mine, mine, master_moves}
+use Rattle.deck_core.proofs.Frame.{Mine, mine, master_moves}
 use Rattle.deck_core.proofs.Transactions.{tick_at}
-use Rattle.deck_core.proofs.Outside.{own_of, no_session}
-use Rattle.deck_core.proofs.Elects.{late_others}
+use Rattle.deck_core.proofs.Outside.{lead_on}
+use Rattle.deck_core.proofs.Elects.{late_others, own_stays}
 
 -- what the search finds is in its range, and isn't in the mask
 pub least_outside_finds : (count from mask k : ℕ) → least_outside count from mask ≡ Some k → (k < from + count) × (has_bit mask k ≡ false)
@@ -88,75 +88,53 @@ gathered_in c h looks s e true t =
     }
 
 -- from the gathering to the gathering, or to the opening of the session
-gather_lead : (limit h gate : ℕ) (looks : Looks) (p : Phase) (b : Told) → LeadFits limit (suc h) gate (phase.Gather looks) b → KeepsInRange limit b.harts (suc h) p → is_shut p ≡ true → is_at_gate p ≡ true → is_in_session p ≡ false → has_read p ≡ false → called b.harts (suc h) p ≡ b.harts - 1 → ((planted enabled : ℕ) → planted ≡ enabled → PlantedFits planted enabled p) → ((step next : Option ℕ) (plantable stepped : Bool) → step ≡ None → StepFits step next plantable stepped p) → LeadFits limit (suc h) gate p b
-gather_lead limit h gate looks p b f range shut at_gate inside unread all planted step = record {
-  range = range;
-  low = f.low;
-  parity = f.parity ∙ sym (ap bit shut);
-  mask = λ x. f.mask refl;
-  trap = λ x. f.trap refl;
-  lines = subst (λ x. openings gate ≤ b.lines + bit (b.over && not x)) (sym at_gate) f.lines;
-  sends = subst (λ n. b.sends ≤ (b.harts - 1) * openings gate + n) (sym all) f.sends;
-  working = λ w. record {
-    session = no_session (suc h) (suc h) (phase.Gather looks) p b.faults b.session (λ x at. refl) inside (f.working w).session;
-    planted = planted b.planted b.enabled (f.working w).planted;
-    step = step b.step b.next b.plantable b.stepped (f.working w).step;
-    read = λ x. absurd (both_ways (has_read p) unread x);
-  };
-}
+gather_lead : (limit h gate : ℕ) (looks : Looks) (p : Phase) (b : Told) → LeadFits limit (suc h) gate (phase.Gather looks) b → KeepsInRange limit b.harts (suc h) p → true ≡ is_shut p → true ≡ is_at_gate p → b.harts - 1 ≡ called b.harts (suc h) p → is_in_session p ≡ false → has_read p ≡ false → (b.planted ≡ b.enabled → PlantedFits b.planted b.enabled p) → (b.step ≡ None → StepFits b.step b.next b.plantable b.stepped p) → LeadFits limit (suc h) gate p b
+gather_lead limit h gate looks p b f range shut at_gate all =
+    lead_on limit (suc h) (suc h) gate (phase.Gather looks) p b b.sends f range shut at_gate refl (λ x. f.trap refl) (omega (arith, all)) (λ x at. refl)
 
 -- the gathering goes on
 gathers_on : (c : Configuration) (h : ℕ) (looks : Looks) (rounds next gathered : ℕ) → Sound c → c.phase h ≡ phase.Gather looks → Gathered c h gathered → rounds < c.limit → next < c.told.harts → has_bit (mask_with gathered h) next ≡ false → Sound (enters h (phase.Gather (record { rounds = rounds; next = next; gathered = gathered })) c)
 gathers_on c h looks rounds next gathered s e g less below out =
     let i : Mine c h (phase.Gather looks) = mine c h (phase.Gather looks) s e refl in
     let p : Phase = phase.Gather (record { rounds = rounds; next = next; gathered = gathered }) in
-    master_moves c h (phase.Gather looks) p c.gate c.own s i (record {
-      next = refl;
-      old_number = tt;
-      own_moves = stays c.own h 1 (own_of c h (phase.Gather looks) s e);
-      gate_grows = omega arith;
-      marks = λ k ne. record {
-        gathered = λ x. g.marked k ((and_parts (has_bit gathered k) (not (suc h == suc k)) x).0);
-        masked = (i.marks k).masked;
-      };
-      lead_fits = gather_lead c.limit h c.gate looks p c.told i.lead
-          (record {
-            next = record {
-              below = below;
-              other = ne_eqb (suc h) (suc next) (λ x.
-                  let same : next ≡ h = omega (arith, x) in
-                  both_ways (has_bit (mask_with gathered h) next) out (ap (has_bit (mask_with gathered h)) same ∙ has_bit-with_same gathered h));
-            };
-            rounds = less;
-            gathered = g.small;
-            others = g.others;
-          })
-          refl refl refl refl refl (λ x y z. z) (λ x y z w v. v);
+    master_moves c h (phase.Gather looks) p c.gate c.own s i
+    (own_stays c h (phase.Gather looks) p c.gate c.told s e refl refl tt (omega arith)
+    (λ k ne. record {
+      gathered = λ x. g.marked k ((and_parts (has_bit gathered k) (not (suc h == suc k)) x).0);
+      masked = (i.marks k).masked;
     })
+    (gather_lead c.limit h c.gate looks p c.told i.lead
+    (record {
+      next = record {
+        below = below;
+        other = ne_eqb (suc h) (suc next) (λ x.
+            let same : next ≡ h = omega (arith, x) in
+            both_ways (has_bit (mask_with gathered h) next) out (ap (has_bit (mask_with gathered h)) same ∙ has_bit-with_same gathered h));
+      };
+      rounds = less;
+      gathered = g.small;
+      others = g.others;
+    })
+    refl refl refl refl refl (λ x. x) (λ x. x)))
 
 -- the gathering ends
 gathers_no_more : (c : Configuration) (h : ℕ) (looks : Looks) (gathered : ℕ) → Sound c → c.phase h ≡ phase.Gather looks → Gathered c h gathered → Sound (enters h (entering c.told.harts h gathered) c)
 gathers_no_more c h looks gathered s e g =
     let i : Mine c h (phase.Gather looks) = mine c h (phase.Gather looks) s e refl in
     let late : ℕ = all_but c.told.harts (mask_with gathered h) in
-    master_moves c h (phase.Gather looks) (entering c.told.harts h gathered) c.gate c.own s i (record {
-      next = refl;
-      old_number = tt;
-      own_moves = stays c.own h 1 (own_of c h (phase.Gather looks) s e);
-      gate_grows = omega arith;
-      marks = λ k ne. record {
-        gathered = λ x.
-            let p = and_parts (nat_lt k c.told.harts) (not (has_bit late k)) ((and_parts (counts c.told.harts (entering c.told.harts h gathered) k) (not (suc h == suc k)) x).0) in
-            let in_time : has_bit late k ≡ false = not-true (has_bit late k) p.1 in
-            let was : has_bit (mask_with gathered h) k ≡ true =
-            not-false (has_bit (mask_with gathered h) k) (sym (has_bit-all_but_inside c.told.harts (mask_with gathered h) k (ltb-true k c.told.harts p.0)) ∙ in_time) in
-            g.marked k (sym (has_bit-with_other gathered h k ne) ∙ was);
-        masked = (i.marks k).masked;
-      };
-      lead_fits = gather_lead c.limit h c.gate looks (entering c.told.harts h gathered) c.told i.lead
-          (late_others c.told.harts h gathered g.small i.below)
-          refl refl refl refl refl (λ x y z. z) (λ x y z w v. v);
+    master_moves c h (phase.Gather looks) (entering c.told.harts h gathered) c.gate c.own s i
+    (own_stays c h (phase.Gather looks) (entering c.told.harts h gathered) c.gate c.told s e refl refl tt (omega arith)
+    (λ k ne. record {
+      gathered = λ x.
+          let p = and_parts (nat_lt k c.told.harts) (not (has_bit late k)) ((and_parts (counts c.told.harts (entering c.told.harts h gathered) k) (not (suc h == suc k)) x).0) in
+          let in_time : has_bit late k ≡ false = not-true (has_bit late k) p.1 in
+          let was : has_bit (mask_with gathered h) k ≡ true =
+          not-false (has_bit (mask_with gathered h) k) (sym (has_bit-all_but_inside c.told.harts (mask_with gathered h) k (ltb-true k c.told.harts p.0)) ∙ in_time) in
+          g.marked k (sym (has_bit-with_other gathered h k ne) ∙ was);
+      masked = (i.marks k).masked;
     })
+    (gather_lead c.limit h c.gate looks (entering c.told.harts h gathered) c.told i.lead (late_others c.told.harts h gathered g.small i.below)
+    refl refl refl refl refl (λ x. x) (λ x. x)))
 
 round_in : (c : Configuration) (h : ℕ) (looks : Looks) (gathered : ℕ) → Sound c → c.phase h ≡ phase.Gather looks → Gathered c h gathered → (found : Option ℕ) → least_outside c.told.harts 0 (mask_with gathered h) ≡ found → Sound (enters h (round_over c.limit c.told.harts h looks gathered found) c)
 round_in c h looks gathered s e g None t = gathers_no_more c h looks gathered s e g
@@ -182,5 +160,5 @@ looked c h looks s e seen t =
     look_in c h looks (gathered_after looks seen) s e (gathered_in c h looks s e seen t)
     (least_outside (c.told.harts - (looks.next + 1)) (looks.next + 1) (mask_with (gathered_after looks seen) h)) refl
 
-pub gather_keeps : GatherKeeps
+pub gather_keeps : (looks : Looks) → KeepsIn (phase.Gather looks)
 gather_keeps looks c h a after s lt e honest = tick_at c h (phase.Gather looks) a after e (looked c h looks s e (mark_counts c looks.next) refl)

@@ -13,7 +13,7 @@ use Rattle.deck_core.specs.declared.plain.notes.Sitting.{Sitting}
 use Rattle.deck_core.proofs.Frame.{Mine, mine}
 use Rattle.deck_core.proofs.Conditions.{gone_trap_drops}
 use Rattle.deck_core.proofs.EveryTick.{every_tick_keeps}
-use Rattle.deck_core.proofs.Steps.{TickMoves, tick_moves, phase_next}
+use Rattle.deck_core.proofs.Steps.{tick_moves, phase_next}
 
 -- the other harts' phases stay over a tick
 pub others_stay : (c next : Configuration) (h k : ℕ) → Ticks h c next → (k ≡ h → ⊥) → next.phase k ≡ c.phase k

@@ -1,6 +1,6 @@
 -- For words that threads share: a hart that has seen an ending may count as in Run again, and in which phases the gate may
 -- be shut after an answer.
-use Rattle.std.proofs.Common.{◌≡◌, ℕ, Bool, true, false, refl, sym, ◌∙◌, ap}
+use Rattle.std.proofs.Common.{◌≡◌, Bool, true, false, refl, sym, ◌∙◌, ap}
 use Rattle.std.proofs.lemmas.Bool.{both_ways}
 use Rattle.deck_core.specs.ticks.Phases.{is_masters, is_marked, is_shut, own_word}
 use Rattle.deck_core.specs.ticks.NextPhase.{after_step, after_check, step_answer, check_answer}

@@ -1,16 +1,15 @@
 -- A hart is late only where its master's looks since the shutting of the gate missed it in each of the rounds.
 use Rattle.std.proofs.Common.{◌≡◌, ℕ, suc, zero, ◌+◌, ◌-◌, ◌%◌, ◌^◌, ◌<◌, ◌≤◌, ◌==◌, ◌&&◌, Bool, true, false, not, nat_lt, List, [], ◌∷◌, Option, Some, None, refl, sym, ◌∙◌, ap, subst, inl, inr, arith, if◌then◌else◌}
-use Rattle.std.proofs.lemmas.Bool.{cases_eq, cases_lt, cases_Bool, eq-eqb, ne_eqb, lt-ltb, le-ltb, ltb-true, both_ways, cond-true, cond-false, not-true, not-false}
+use Rattle.std.proofs.lemmas.Bool.{cases_eq, cases_lt, cases_Bool, eq-eqb, ne_eqb, lt-ltb, le-ltb, both_ways, cond-true, cond-false, not-true}
 use Rattle.std.proofs.lemmas.Nat.{pow_pos}
 use Rattle.mach_base.specs.Masks.{has_bit, mask_with, mask_without, all_but, least, least_outside}
 use Rattle.mach_base.proofs.Bits.{has_bit-zero, has_bit-with_same, has_bit-with_other, has_bit-all_but_inside, has_bit-all_but_outside, mask_with-lt}
-use Rattle.deck_core.specs.contract.Told.{Told, IsOpening}
 use Rattle.deck_core.specs.ticks.Configuration.{Configuration, opening}
 use Rattle.deck_core.specs.ticks.Phases.{holds, late_of}
 use Rattle.deck_core.specs.ticks.NextPhase.{after_answer, after_step, after_check, after_shut, after_send, after_look, after_enter, after_line, after_pull_step, after_pass, then_of, passing, entering, first_look, skipping, looks_on, round_over, gathered_after, step_answer, check_answer, enter_answer, line_answer, pass_answer}
 use Rattle.deck_core.specs.ticks.Tick.{Ticks, TicksAll, makes_call, mark_counts}
 use Rattle.deck_core.specs.ticks.Looks.{Look, looks_with, looks_over, missed, found, WasMissed}
-use Rattle.deck_core.specs.Invariant.{Sound, LooksFit, KeepsInRange}
+use Rattle.deck_core.specs.Invariant.{Sound, LooksFit}
 use Rattle.deck_core.specs.laws.Runs.{LateWereMissed}
 use Rattle.deck_core.specs.declared.plain.phase.Phase.{Phase}
 use Rattle.deck_core.specs.declared.plain.phase.Phase.TheVariants as phase
@@ -26,7 +25,7 @@ use Rattle.deck_core.specs.declared.plain.act.Lined.{Lined}
 use Rattle.deck_core.specs.declared.plain.act.Lined.TheVariants as lined
 use Rattle.deck_core.specs.declared.plain.act.Passed.{Passed}
 use Rattle.deck_core.specs.declared.plain.act.Answer.{Answer}
-use Rattle.deck_core.proofs.Frame.{Mine, mine}
+use Rattle.deck_core.proofs.Frame.{mine}
 use Rattle.deck_core.proofs.Elects.{skipping_is}
 use Rattle.deck_core.proofs.Flats.{acts_harts}
 use Rattle.deck_core.proofs.Opening.{opening_is_sound}

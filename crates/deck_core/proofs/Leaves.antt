@@ -10,11 +10,11 @@ use Rattle.deck_core.specs.declared.plain.notes.Sitting.{Sitting}
 use Rattle.deck_core.specs.declared.plain.phase.Phase.TheVariants as phase
 use Rattle.deck_core.specs.declared.plain.phase.Kept.{Kept}
 use Rattle.deck_core.specs.contract.Calls.{CloseGives}
-use Rattle.deck_core.specs.laws.Keeps.{CloseKeeps, OpenGateKeeps, DropKeeps, FreeKeeps}
-use Rattle.deck_core.proofs.Frame.{stays, put_moves, Mine, mine, master_moves, master_gives, moved}
+use Rattle.deck_core.specs.laws.Keeps.{KeepsIn}
+use Rattle.deck_core.proofs.Frame.{put_moves, Mine, mine, master_moves, master_gives}
 use Rattle.deck_core.proofs.Transactions.{tick_at, call_keeps}
-use Rattle.deck_core.proofs.Outside.{own_of, no_session}
-use Rattle.deck_core.proofs.Elects.{no_marks, uncounted}
+use Rattle.deck_core.proofs.Outside.{own_of, no_marks, quiet_working, lead_on, master_changes}
+use Rattle.deck_core.proofs.Elects.{uncounted, own_stays}
 
 -- ---- Close
 
@@ -39,14 +39,10 @@ close_lead limit h gate kept b session next plantable none f = record {
 close_in : (c : Configuration) (h : ℕ) (kept : Kept) (session : Option Sitting) (next : Option ℕ) (plantable : Bool) → Sound c → c.phase h ≡ phase.Close kept → holds (c.place h) ≡ true → (c.told.over ≡ false → session ≡ None) → IsTold (record c.told { mask = 0; session = session; next = next; plantable = plantable }) → Sound (gives h phase.OpenGate (record c.told { mask = 0; session = session; next = next; plantable = plantable }) c)
 close_in c h kept session next plantable s e held none fits =
     let i : Mine c h (phase.Close kept) = mine c h (phase.Close kept) s e refl in
-    master_gives c h (phase.Close kept) phase.OpenGate (record c.told { mask = 0; session = session; next = next; plantable = plantable }) s i (record {
-      next = refl;
-      old_number = tt;
-      own_moves = stays c.own h 1 (own_of c h (phase.Close kept) s e);
-      gate_grows = omega arith;
-      marks = λ k ne. no_marks c.told.harts 0 c.gate (suc h) k phase.OpenGate (c.phase k) refl refl;
-      lead_fits = close_lead c.limit h c.gate kept c.told session next plantable none i.lead;
-    }) fits held refl (λ o. o)
+    let b : Told = record c.told { mask = 0; session = session; next = next; plantable = plantable } in
+    master_gives c h (phase.Close kept) phase.OpenGate b s i
+    (own_stays c h (phase.Close kept) phase.OpenGate c.gate b s e refl refl tt (omega arith)
+    (λ k ne. no_marks c.told.harts 0 c.gate (suc h) k phase.OpenGate (c.phase k) refl refl) (close_lead c.limit h c.gate kept c.told session next plantable none i.lead)) fits held refl (λ o. o)
 
 close_done : (c : Configuration) (h : ℕ) (kept : Kept) (after : Told) → Sound c → c.phase h ≡ phase.Close kept → holds (c.place h) ≡ true → CloseGives c.told after → IsTold after → Sound (gives h phase.OpenGate after c)
 close_done c h kept after s e held g fits =
@@ -57,7 +53,7 @@ close_done c h kept after s e held g fits =
           (close_in c h kept None after.next after.plantable s e held (λ x. refl) (subst IsTold (g.working w) fits))
     ]
 
-pub close_keeps : CloseKeeps
+pub close_keeps : (kept : Kept) → KeepsIn (phase.Close kept)
 close_keeps kept c h a after s lt e honest = tick_at c h (phase.Close kept) a after e
     (call_keeps c h (phase.Close kept) a after s e refl honest
     (λ held acts. close_done c h kept after s e held acts.does.1 acts.fits))
@@ -83,46 +79,19 @@ open_lead limit h gate b f =
       sends =
           (let g : b.sends ≤ (b.harts - 1) * openings gate + (b.harts - 1) = f.sends in
           subst (λ o. b.sends ≤ (b.harts - 1) * o + 0) (sym more) (omega (arith, g)));
-      working = λ w. record {
-        session = no_session (suc h) (suc h) phase.OpenGate phase.Drop b.faults b.session (λ x at. refl) refl (f.working w).session;
-        planted = (f.working w).planted;
-        step = (f.working w).step;
-        read = λ x. absurd (both_ways false refl x);
-      };
+      working = λ w. quiet_working (suc h) (suc h) gate (suc gate) phase.OpenGate phase.Drop b b.sends (λ x at. refl) refl refl (λ x. x) (λ x. x) (f.working w);
     }
 
-pub open_gate_keeps : OpenGateKeeps
+pub open_gate_keeps : KeepsIn phase.OpenGate
 open_gate_keeps c h a after s lt e honest = tick_at c h phase.OpenGate a after e
     (let i : Mine c h phase.OpenGate = mine c h phase.OpenGate s e refl in
-    master_moves c h phase.OpenGate phase.Drop (suc c.gate) c.own s i (record {
-      next = refl;
-      old_number = tt;
-      own_moves = stays c.own h 1 (own_of c h phase.OpenGate s e);
-      gate_grows = omega arith;
-      marks = λ k ne. no_marks c.told.harts c.told.mask (suc c.gate) (suc h) k phase.Drop (c.phase k) (i.lead.mask refl) refl;
-      lead_fits = open_lead c.limit h c.gate c.told i.lead;
-    }))
+    master_moves c h phase.OpenGate phase.Drop (suc c.gate) c.own s i
+    (own_stays c h phase.OpenGate phase.Drop (suc c.gate) c.told s e refl refl tt (omega arith)
+    (λ k ne. no_marks c.told.harts c.told.mask (suc c.gate) (suc h) k phase.Drop (c.phase k) (i.lead.mask refl) refl) (open_lead c.limit h c.gate c.told i.lead)))
 
 -- ---- Drop and Free
 
-drop_lead : (limit h gate : ℕ) (b : Told) → LeadFits limit (suc h) gate phase.Drop b → LeadFits limit (suc h) gate phase.Free b
-drop_lead limit h gate b f = record {
-  range = tt;
-  low = f.low;
-  parity = f.parity;
-  mask = λ x. f.mask refl;
-  trap = λ x. absurd (both_ways false refl x);
-  lines = f.lines;
-  sends = f.sends;
-  working = λ w. record {
-    session = no_session (suc h) (suc h) phase.Drop phase.Free b.faults b.session (λ x at. refl) refl (f.working w).session;
-    planted = (f.working w).planted;
-    step = (f.working w).step;
-    read = λ x. absurd (both_ways false refl x);
-  };
-}
-
-pub drop_keeps : DropKeeps
+pub drop_keeps : KeepsIn phase.Drop
 drop_keeps c h a after s lt e honest = tick_at c h phase.Drop a after e
     (let i : Mine c h phase.Drop = mine c h phase.Drop s e refl in
     master_moves c h phase.Drop phase.Free c.gate (put c.own h 0) s i (record {
@@ -131,48 +100,12 @@ drop_keeps c h a after s lt e honest = tick_at c h phase.Drop a after e
       own_moves = put_moves c.own h 0;
       gate_grows = omega arith;
       marks = λ k ne. uncounted c.told.harts c.told.mask c.gate (suc h) k phase.Drop phase.Free (c.phase k) refl (i.marks k);
-      lead_fits = drop_lead c.limit h c.gate c.told i.lead;
+      lead_fits = lead_on c.limit (suc h) (suc h) c.gate phase.Drop phase.Free c.told c.told.sends i.lead tt refl refl refl (λ x. absurd (both_ways false refl x)) (omega arith) (λ f at. refl) refl refl (λ x. x) (λ x. x);
     }))
 
-free_lead : (limit h gate : ℕ) (b : Told) → LeadFits limit (suc h) gate phase.Free b → LeadFits limit 0 gate phase.Run b
-free_lead limit h gate b f = record {
-  range = tt;
-  low = f.low;
-  parity = f.parity;
-  mask = λ x. f.mask refl;
-  trap = λ x. absurd (both_ways false refl x);
-  lines = f.lines;
-  sends = f.sends;
-  working = λ w. record {
-    session = no_session (suc h) 0 phase.Free phase.Run b.faults b.session (λ x at. refl) refl (f.working w).session;
-    planted = (f.working w).planted;
-    step = (f.working w).step;
-    read = λ x. absurd (both_ways false refl x);
-  };
-}
-
-pub free_keeps : FreeKeeps
+pub free_keeps : KeepsIn phase.Free
 free_keeps c h a after s lt e honest = tick_at c h phase.Free a after e
     (let i : Mine c h phase.Free = mine c h phase.Free s e refl in
-    let empty : c.told.mask ≡ 0 = i.lead.mask refl in
-    moved c h phase.Run phase.Run c.turn 0 c.gate c.own (put c.phase h phase.Run) c.place c.told s (record {
-      told = s.told;
-      mask = s.mask;
-      turns = s.turn;
-      few = omega arith;
-      phase_moves = put_moves c.phase h phase.Run;
-      own_moves = stays c.own h 0 (own_of c h phase.Free s e);
-      gate_grows = omega arith;
-      over_stays = λ o. o;
-      same_master = λ k ne. ne_eqb c.master (suc k) (λ x. ne (omega (arith, x, i.master))) ∙ sym (ne_eqb 0 (suc k) (λ x. omega (arith, x)));
-      here = record {
-        own_word = refl;
-        finished = λ f. absurd (both_ways false refl f);
-        masters = sym (ne_eqb 0 (suc h) (λ x. omega (arith, x)));
-        old_number = tt;
-      };
-      leads = refl;
-      mark = no_marks c.told.harts c.told.mask c.gate 0 h phase.Run phase.Run empty refl;
-      marks = λ k ne. no_marks c.told.harts c.told.mask c.gate 0 k phase.Run (c.phase k) empty refl;
-      lead_fits = free_lead c.limit h c.gate c.told i.lead;
-    }))
+    master_changes c h 0 phase.Run s (i.lead.mask refl) (own_of c h phase.Free s e) refl tt (λ k. refl) (omega arith) (sym (ne_eqb 0 (suc h) (λ x. omega (arith, x))))
+    (λ k ne. ne_eqb c.master (suc k) (λ x. ne (omega (arith, x, i.master))) ∙ sym (ne_eqb 0 (suc k) (λ x. omega (arith, x))))
+    refl (lead_on c.limit (suc h) 0 c.gate phase.Free phase.Run c.told c.told.sends i.lead tt refl refl refl (λ x. absurd (both_ways false refl x)) (omega arith) (λ f at. refl) refl refl (λ x. x) (λ x. x)))

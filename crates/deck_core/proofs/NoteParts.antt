@@ -1,6 +1,6 @@
 -- The words of notes, read back.
-use Rattle.std.proofs.Common.{◌≡◌, ℕ, ◌%◌, ◌<◌, ◌==◌, Bool, true, false, not, Option, Some, None, refl, sym, ◌∙◌, ap, arith}
-use Rattle.deck_core.specs.plain.NoteWords.{flag_word, there_word, address_word, address_of, stage_number, stage_of, stage_word, master_word, late_word, session_of, note_words, notes_of, HasMaster, NotesAreReadBack}
+use Rattle.std.proofs.Common.{◌≡◌, ℕ, ◌%◌, ◌==◌, Bool, true, false, not, Option, Some, None, refl, ◌∙◌, ap, arith}
+use Rattle.deck_core.specs.plain.NoteWords.{flag_word, there_word, address_word, address_of, stage_number, stage_word, master_word, late_word, session_of, note_words, notes_of, HasMaster, NotesAreReadBack}
 use Rattle.deck_core.specs.declared.plain.notes.Notes.{Notes}
 use Rattle.deck_core.specs.declared.plain.notes.Sitting.{Sitting}
 use Rattle.deck_core.specs.declared.plain.notes.Stage.{Stage}

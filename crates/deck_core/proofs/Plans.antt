@@ -1,11 +1,10 @@
 -- Lists of ticks with their bus.
-use Rattle.std.proofs.Common.{◌≡◌, ℕ, Bool, true, false, List, [], ◌∷◌, refl, sym, ◌∙◌, ap, subst, inl, inr, if◌then◌else◌}
-use Rattle.std.proofs.lemmas.Bool.{cases_Bool}
+use Rattle.std.proofs.Common.{◌≡◌, ℕ, Bool, true, false, List, [], ◌∷◌, refl, sym, ◌∙◌, ap, subst}
 use Rattle.deck_core.specs.contract.Told.{Told}
 use Rattle.deck_core.specs.ticks.Configuration.{Configuration}
 use Rattle.deck_core.specs.ticks.NextPhase.{act_of}
-use Rattle.deck_core.specs.ticks.Tick.{tick, makes_call, TicksAll}
-use Rattle.deck_core.specs.ticks.Run.{BusMoves, BusTicks, RunsWith, IsOrderOver, call_if, tick_of, ticks_of}
+use Rattle.deck_core.specs.ticks.Tick.{tick, makes_call}
+use Rattle.deck_core.specs.ticks.Run.{BusMoves, RunsWith, IsOrderOver, call_if, ticks_of}
 use Rattle.deck_core.specs.laws.Runs.{RunsAreTicks, RunsKeep, RunsAreExact}
 use Rattle.deck_core.specs.declared.plain.act.Act.{Act}
 use Rattle.deck_core.specs.declared.plain.act.Answer.{Answer}

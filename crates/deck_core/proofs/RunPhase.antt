@@ -10,7 +10,7 @@ use Rattle.deck_core.specs.contract.Allowed.{in_session, is_of}
 use Rattle.deck_core.specs.ticks.NextPhase.{after_step, step_answer}
 use Rattle.deck_core.specs.ticks.Tick.{gives}
 use Rattle.deck_core.specs.Invariant.{Sound, LeadFits, Working, session_fits, stage_fits, StepFits, at_master, bit}
-use Rattle.deck_core.specs.laws.Keeps.{RunKeeps}
+use Rattle.deck_core.specs.laws.Keeps.{KeepsIn}
 use Rattle.deck_core.specs.declared.plain.notes.Sitting.{Sitting}
 use Rattle.deck_core.specs.declared.plain.phase.Phase.{Phase}
 use Rattle.deck_core.specs.declared.plain.phase.Phase.TheVariants as phase
@@ -118,7 +118,7 @@ stepped c h r b s e held g fits =
     })
     fits held (ap (λ x. x.harts) g.told) (ap (λ x. x.mask) g.told) g.stays_over lead
 
-pub run_keeps : RunKeeps
+pub run_keeps : KeepsIn phase.Run
 run_keeps c h a after s lt e honest = tick_at c h phase.Run a after e
     (call_keeps c h phase.Run a after s e refl honest
     (λ held acts.

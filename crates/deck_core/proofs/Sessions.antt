@@ -1,6 +1,6 @@
 -- An open session: words are pulled, lines are run, and a single-step pass.
 use Rattle.std.proofs.Common.{◌≡◌, ℕ, suc, ◌+◌, ◌^◌, ◌<◌, ◌≤◌, ◌==◌, ◌&&◌, Bool, true, false, not, refl, sym, ◌∙◌, ap, subst, inl, inr, arith, if◌then◌else◌, Option, Some, None, is_some}
-use Rattle.std.proofs.lemmas.Bool.{cases_eq, cases_Bool, eqb-true, eqb-false, both_ways, and_parts, and_from}
+use Rattle.std.proofs.lemmas.Bool.{cases_eq, cases_Bool, eqb-true, both_ways, and_parts, and_from}
 use Rattle.mach_base.specs.Masks.{has_bit, mask_with, mask_without, least}
 use Rattle.deck_core.specs.ticks.Phases.{is_in_session, late_of, holds}
 use Rattle.deck_core.specs.contract.Told.{Told, IsTold}
@@ -19,7 +19,7 @@ use Rattle.deck_core.specs.declared.plain.phase.Kept.{Kept}
 use Rattle.deck_core.specs.declared.plain.phase.Then.{Then}
 use Rattle.deck_core.specs.declared.plain.phase.Then.TheVariants as follow
 use Rattle.deck_core.specs.contract.Calls.{PassGives, PassLeaves, LineGives, LineLeaves, IsStepAddress, Lost, line_read, executed, pulled, replanted, step_planted, step_pulled}
-use Rattle.deck_core.specs.laws.Keeps.{PullKeeps, LinesKeeps, PlantStepKeeps, PassStepKeeps, PullStepKeeps, PlantKeeps}
+use Rattle.deck_core.specs.laws.Keeps.{KeepsIn}
 use Rattle.deck_core.specs.declared.plain.act.Lined.{Lined}
 use Rattle.deck_core.specs.declared.plain.act.Lined.TheVariants as lined
 use Rattle.deck_core.specs.declared.plain.act.Passed.{Passed}
@@ -27,7 +27,7 @@ use Rattle.deck_core.specs.declared.plain.act.Passed.TheVariants as passed
 use Rattle.mach_base.proofs.Bits.{has_bit-zero, has_bit-least, has_bit-below, has_bit-with_same, has_bit-with_other, has_bit-without_same, has_bit-without_other, mask_without-lt, same_mask}
 use Rattle.deck_core.proofs.Frame.{Mine, mine}
 use Rattle.deck_core.proofs.Transactions.{tick_at, call_keeps}
-use Rattle.deck_core.proofs.Enters.{Within, Inside, inside_gives, ended_gives, ended, mask_marked, pull_inside, lines_inside, plant_step_inside, pass_step_inside, pull_step_inside, plant_inside, close_inside, enter_inside, pulling_inside, pulling_session, pulling_range}
+use Rattle.deck_core.proofs.Enters.{Within, Inside, inside_gives, ended_gives, ended, mask_marked, pull_inside, lines_inside, plant_step_inside, pass_step_inside, pull_step_inside, plant_inside, close_inside, enter_inside, GoesInside, left_goes, pulling_goes}
 
 -- the least place that is left is one of the sixteen
 pub least_below : (left : ℕ) → LeftFits left → least left < 16
@@ -54,6 +54,19 @@ session_in m lead lead2 faults faults2 (Some sitting) to inside late fits f =
     (ap (λ x. (m == suc sitting.master.0) && (sitting.late == x)) late ∙ p.0)
     (fits (has_bit faults2 sitting.master.0))
 
+-- a call over which the mask, the lines and the calls stay: the master goes on inside its session, and so it does after an
+-- ending, where the call changes nothing
+changed_gives : (c : Configuration) (h : ℕ) (from p : Phase) (made after : Told) → Sound c → c.phase h ≡ from → holds (c.place h) ≡ true → Changes c.told after made → IsTold after → Within from → (KeepsInRange c.limit c.told.harts (suc h) from → GoesInside c.limit c.told.harts (suc h) p) → made.harts ≡ c.told.harts → made.mask ≡ c.told.mask → made.lines ≡ c.told.lines → made.sends ≡ c.told.sends → (KeepsInRange c.limit c.told.harts (suc h) from → Working (suc h) c.gate from c.told → Working (suc h) c.gate p made) → Sound (gives h p after c)
+changed_gives c h from p made after s e held g fits w goes harts mask lines sends working =
+    let i : Mine c h from = mine c h from s e w.masters in
+    let to : GoesInside c.limit c.told.harts (suc h) p = goes i.lead.range in
+    elim (cases_Bool c.told.over) [
+      | inl o ↦ subst (λ b. Sound (gives h p b c)) (sym (g.ended o)) (ended_gives c h from p s e w to.inside to.session held o to.range)
+      | inr q ↦ subst (λ b. Sound (gives h p b c)) (sym (g.working q))
+          (inside_gives c h from p made s e w to.inside to.session held (subst IsTold (g.working q) fits) harts (mask_marked c h from made i mask)
+          (λ o. absurd (both_ways c.told.over q o)) (omega (arith, lines)) sends to.range (λ x. working i.lead.range (i.lead.working q)))
+    ]
+
 -- ---- Pull
 
 pull_working : (m gate : ℕ) (kept : Kept) (left rest : ℕ) (b : Told) → Working m gate (phase.Pull kept left) b → mask_without left (least left) ≡ rest → (zero_left : Bool) → (rest == 0) ≡ zero_left → Working m gate (if zero_left then phase.Lines kept else phase.Pull kept rest) (pulled (least left) b)
@@ -72,40 +85,22 @@ pull_working m gate kept left rest b w r false z = record {
 
 pull_done : (c : Configuration) (h : ℕ) (kept : Kept) (left : ℕ) (after : Told) → Sound c → c.phase h ≡ phase.Pull kept left → holds (c.place h) ≡ true → Changes c.told after (pulled (least left) c.told) → IsTold after → Sound (gives h (pulling kept (mask_without left (least left))) after c)
 pull_done c h kept left after s e held g fits =
-    let i : Mine c h (phase.Pull kept left) = mine c h (phase.Pull kept left) s e refl in
     let rest : ℕ = mask_without left (least left) in
-    let z : Bool = rest == 0 in
-    let w : Within (phase.Pull kept left) = (pull_inside kept left).within in
-    let range : KeepsInRange c.limit c.told.harts (suc h) (pulling kept rest) = pulling_range c.limit c.told.harts (suc h) kept rest i.lead.range.0 (rest_below left i.lead.range.1) z refl in
-    elim (cases_Bool c.told.over) [
-      | inl o ↦ subst (λ b. Sound (gives h (pulling kept rest) b c)) (sym (g.ended o))
-          (ended_gives c h (phase.Pull kept left) (pulling kept rest) s e w (pulling_inside kept rest z) (pulling_session kept rest z) held o range)
-      | inr q ↦ subst (λ b. Sound (gives h (pulling kept rest) b c)) (sym (g.working q))
-          (inside_gives c h (phase.Pull kept left) (pulling kept rest) (pulled (least left) c.told) s e w (pulling_inside kept rest z) (pulling_session kept rest z) held
-          (subst IsTold (g.working q) fits) refl (mask_marked c h (phase.Pull kept left) (pulled (least left) c.told) i refl) (λ o. o) (omega arith) refl range
-          (λ x. pull_working (suc h) c.gate kept left rest c.told (i.lead.working x) refl z refl))
-    ]
+    changed_gives c h (phase.Pull kept left) (pulling kept rest) (pulled (least left) c.told) after s e held g fits (pull_inside kept left).within
+    (λ r. pulling_goes c.limit c.told.harts (suc h) kept rest r.0 (rest_below left r.1) (rest == 0) refl) refl refl refl refl
+    (λ r w. pull_working (suc h) c.gate kept left rest c.told w refl (rest == 0) refl)
 
-pub pull_keeps : PullKeeps
+pub pull_keeps : (kept : Kept) (left : ℕ) → KeepsIn (phase.Pull kept left)
 pull_keeps kept left c h a after s lt e honest = tick_at c h (phase.Pull kept left) a after e
     (call_keeps c h (phase.Pull kept left) a after s e refl honest
     (λ held acts. pull_done c h kept left after s e held acts.does.1 acts.fits))
 
 -- ---- planting
 
-pub planting_inside : (kept : Kept) (left : ℕ) (zero_left : Bool) → Inside (if zero_left then phase.Close kept else phase.Plant kept left)
-planting_inside kept left true = close_inside kept
-planting_inside kept left false = plant_inside kept left
-
-pub planting_session : (kept : Kept) (left : ℕ) (zero_left : Bool) → is_in_session (if zero_left then phase.Close kept else phase.Plant kept left) ≡ true
-planting_session kept left true = refl
-planting_session kept left false = refl
-
-pub planting_range : (limit harts m : ℕ) (kept : Kept) (left : ℕ) → LateFits harts m kept.late → left < 2 ^ 16 → (zero_left : Bool) → (left == 0) ≡ zero_left → KeepsInRange limit harts m (if zero_left then phase.Close kept else phase.Plant kept left)
-planting_range limit harts m kept left f lt true z = f
-planting_range limit harts m kept left f lt false z =
-    let ne : left ≡ 0 → ⊥ = eqb-false left 0 z in
-    (f, record { some = omega (arith, ne); places = lt })
+planting_goes : (limit harts m : ℕ) (kept : Kept) (left : ℕ) → LateFits harts m kept.late → left < 2 ^ 16 → (zero_left : Bool) → (left == 0) ≡ zero_left → GoesInside limit harts m (if zero_left then phase.Close kept else phase.Plant kept left)
+planting_goes limit harts m kept left f lt z e =
+    left_goes limit harts m left (phase.Close kept) (phase.Plant kept left) (record { inside = close_inside kept; session = refl; range = f })
+    (λ l. record { inside = plant_inside kept left; session = refl; range = (f, l) }) lt z e
 
 and_not_self : (x : Bool) → (x && not x) ≡ false
 and_not_self true = refl
@@ -182,8 +177,8 @@ line_frees : (c : Configuration) (h : ℕ) (kept : Kept) (enabled : ℕ) (after 
 line_frees c h kept enabled after s e held w g same fits =
     let i : Mine c h (phase.Lines kept) = mine c h (phase.Lines kept) s e refl in
     let z : Bool = enabled == 0 in
-    line_gives c h kept (planting kept enabled) stage.Leaving after s e held w g fits (planting_inside kept enabled z) (planting_session kept enabled z)
-    (planting_range c.limit c.told.harts (suc h) kept enabled i.lead.range (subst (λ x. x < 2 ^ 16) (sym same) fits.enabled) z refl)
+    let goes : GoesInside c.limit c.told.harts (suc h) (planting kept enabled) = planting_goes c.limit c.told.harts (suc h) kept enabled i.lead.range (subst (λ x. x < 2 ^ 16) (sym same) fits.enabled) z refl in
+    line_gives c h kept (planting kept enabled) stage.Leaving after s e held w g fits goes.inside goes.session goes.range
     (λ f read. planting_from_none (suc h) c.gate kept 0 enabled (line_read stage.Leaving c.told after) f.planted same f.step read
     (λ lead late fit more. session_in (suc h) (phase.Lines kept) lead c.told.faults after.faults c.told.session stage.Leaving refl late fit f.session) z refl)
 
@@ -215,7 +210,7 @@ lines_done c h kept r after s e held g fits =
       | inr w ↦ line_leaves c h kept r after s e held w (g.working w) fits
     ]
 
-pub lines_keeps : LinesKeeps
+pub lines_keeps : (kept : Kept) → KeepsIn (phase.Lines kept)
 lines_keeps kept c h a after s lt e honest = tick_at c h (phase.Lines kept) a after e
     (call_keeps c h (phase.Lines kept) a after s e refl honest
     (λ held acts.
@@ -226,24 +221,16 @@ lines_keeps kept c h a after s lt e honest = tick_at c h (phase.Lines kept) a af
 
 plant_step_done : (c : Configuration) (h : ℕ) (kept : Kept) (at : ℕ) (after : Told) → Sound c → c.phase h ≡ phase.PlantStep kept at → holds (c.place h) ≡ true → Changes c.told after (step_planted at c.told) → IsTold after → Sound (gives h (phase.PassStep kept true) after c)
 plant_step_done c h kept at after s e held g fits =
-    let i : Mine c h (phase.PlantStep kept at) = mine c h (phase.PlantStep kept at) s e refl in
-    let w : Within (phase.PlantStep kept at) = (plant_step_inside kept at).within in
-    elim (cases_Bool c.told.over) [
-      | inl o ↦ subst (λ b. Sound (gives h (phase.PassStep kept true) b c)) (sym (g.ended o))
-          (ended_gives c h (phase.PlantStep kept at) (phase.PassStep kept true) s e w (pass_step_inside kept true) refl held o i.lead.range)
-      | inr q ↦ subst (λ b. Sound (gives h (phase.PassStep kept true) b c)) (sym (g.working q))
-          (inside_gives c h (phase.PlantStep kept at) (phase.PassStep kept true) (step_planted at c.told) s e w (pass_step_inside kept true) refl held
-          (subst IsTold (g.working q) fits) refl (mask_marked c h (phase.PlantStep kept at) (step_planted at c.told) i refl) (λ o. o) (omega arith) refl i.lead.range
-          (λ x. let f : Working (suc h) c.gate (phase.PlantStep kept at) c.told = i.lead.working x in
-          record {
-            session = session_goes (suc h) (phase.PlantStep kept at) (phase.PassStep kept true) c.told.faults c.told.session refl refl (λ b y z. z) f.session;
-            planted = f.planted;
-            step = record { stands = refl; at_next = sym f.step.at_next; text = f.step.text };
-            read = f.read;
-          }))
-    ]
+    changed_gives c h (phase.PlantStep kept at) (phase.PassStep kept true) (step_planted at c.told) after s e held g fits (plant_step_inside kept at).within
+    (λ r. record { inside = pass_step_inside kept true; session = refl; range = r }) refl refl refl refl
+    (λ r f. record {
+      session = session_goes (suc h) (phase.PlantStep kept at) (phase.PassStep kept true) c.told.faults c.told.session refl refl (λ b y z. z) f.session;
+      planted = f.planted;
+      step = record { stands = refl; at_next = sym f.step.at_next; text = f.step.text };
+      read = f.read;
+    })
 
-pub plant_step_keeps : PlantStepKeeps
+pub plant_step_keeps : (kept : Kept) (at : ℕ) → KeepsIn (phase.PlantStep kept at)
 plant_step_keeps kept at c h a after s lt e honest = tick_at c h (phase.PlantStep kept at) a after e
     (call_keeps c h (phase.PlantStep kept at) a after s e refl honest
     (λ held acts. plant_step_done c h kept at after s e held acts.does.1 acts.fits))
@@ -340,8 +327,8 @@ pass_frees c h kept true enabled after s e held w same g fits =
 pass_frees c h kept false enabled after s e held w same g fits =
     let i : Mine c h (phase.PassStep kept false) = mine c h (phase.PassStep kept false) s e refl in
     let z : Bool = enabled == 0 in
-    pass_gives c h kept false (planting kept enabled) after s e held w fits (planting_inside kept enabled z) (planting_session kept enabled z)
-    (planting_range c.limit c.told.harts (suc h) kept enabled i.lead.range (subst (λ x. x < 2 ^ 16) (sym same) s.told.enabled) z refl)
+    let goes : GoesInside c.limit c.told.harts (suc h) (planting kept enabled) = planting_goes c.limit c.told.harts (suc h) kept enabled i.lead.range (subst (λ x. x < 2 ^ 16) (sym same) s.told.enabled) z refl in
+    pass_gives c h kept false (planting kept enabled) after s e held w fits goes.inside goes.session goes.range
     (ap (λ b. b.harts) g) (ap (λ b. b.mask) g) (ap (λ b. b.lines) g) (ap (λ b. b.sends) g)
     (λ f. subst (λ b. Working (suc h) c.gate (planting kept enabled) b) (sym g)
     (planting_from_none (suc h) c.gate kept 0 enabled (executed stage.Leaving c.told after) f.planted same
@@ -373,7 +360,7 @@ pass_done c h kept planted r after s e held g fits =
       | inr w ↦ pass_leaves c h kept planted r after s e held w (g.working w) fits
     ]
 
-pub pass_step_keeps : PassStepKeeps
+pub pass_step_keeps : (kept : Kept) (planted : Bool) → KeepsIn (phase.PassStep kept planted)
 pass_step_keeps kept planted c h a after s lt e honest = tick_at c h (phase.PassStep kept planted) a after e
     (call_keeps c h (phase.PassStep kept planted) a after s e refl honest
     (λ held acts.
@@ -383,17 +370,9 @@ pass_step_keeps kept planted c h a after s lt e honest = tick_at c h (phase.Pass
 -- ---- PullStep
 
 -- after the step word is gone: the session opens again, or the places are planted
-pulled_inside : (kept : Kept) (follows : Then) → Inside (after_pull_step kept follows)
-pulled_inside kept follow.Enter = enter_inside kept
-pulled_inside kept (follow.Plant left) = planting_inside kept left (left == 0)
-
-pulled_session : (kept : Kept) (follows : Then) → is_in_session (after_pull_step kept follows) ≡ true
-pulled_session kept follow.Enter = refl
-pulled_session kept (follow.Plant left) = planting_session kept left (left == 0)
-
-pulled_range : (limit harts m : ℕ) (kept : Kept) (follows : Then) → LateFits harts m kept.late × ThenFits follows → KeepsInRange limit harts m (after_pull_step kept follows)
-pulled_range limit harts m kept follow.Enter f = f.0
-pulled_range limit harts m kept (follow.Plant left) f = planting_range limit harts m kept left f.0 f.1 (left == 0) refl
+pulled_goes : (limit harts m : ℕ) (kept : Kept) (follows : Then) → LateFits harts m kept.late × ThenFits follows → GoesInside limit harts m (after_pull_step kept follows)
+pulled_goes limit harts m kept follow.Enter f = record { inside = enter_inside kept; session = refl; range = f.0 }
+pulled_goes limit harts m kept (follow.Plant left) f = planting_goes limit harts m kept left f.0 f.1 (left == 0) refl
 
 pulled_working : (m gate : ℕ) (kept : Kept) (follows : Then) (b : Told) → Working m gate (phase.PullStep kept follows) b → Working m gate (after_pull_step kept follows) (step_pulled b)
 pulled_working m gate kept follow.Enter b f = record {
@@ -409,19 +388,10 @@ pulled_working m gate kept (follow.Plant left) b f =
 
 pull_step_done : (c : Configuration) (h : ℕ) (kept : Kept) (follows : Then) (after : Told) → Sound c → c.phase h ≡ phase.PullStep kept follows → holds (c.place h) ≡ true → Changes c.told after (step_pulled c.told) → IsTold after → Sound (gives h (after_pull_step kept follows) after c)
 pull_step_done c h kept follows after s e held g fits =
-    let i : Mine c h (phase.PullStep kept follows) = mine c h (phase.PullStep kept follows) s e refl in
-    let w : Within (phase.PullStep kept follows) = (pull_step_inside kept follows).within in
-    let range : KeepsInRange c.limit c.told.harts (suc h) (after_pull_step kept follows) = pulled_range c.limit c.told.harts (suc h) kept follows i.lead.range in
-    elim (cases_Bool c.told.over) [
-      | inl o ↦ subst (λ b. Sound (gives h (after_pull_step kept follows) b c)) (sym (g.ended o))
-          (ended_gives c h (phase.PullStep kept follows) (after_pull_step kept follows) s e w (pulled_inside kept follows) (pulled_session kept follows) held o range)
-      | inr q ↦ subst (λ b. Sound (gives h (after_pull_step kept follows) b c)) (sym (g.working q))
-          (inside_gives c h (phase.PullStep kept follows) (after_pull_step kept follows) (step_pulled c.told) s e w (pulled_inside kept follows) (pulled_session kept follows) held
-          (subst IsTold (g.working q) fits) refl (mask_marked c h (phase.PullStep kept follows) (step_pulled c.told) i refl) (λ o. o) (omega arith) refl range
-          (λ x. pulled_working (suc h) c.gate kept follows c.told (i.lead.working x)))
-    ]
+    changed_gives c h (phase.PullStep kept follows) (after_pull_step kept follows) (step_pulled c.told) after s e held g fits (pull_step_inside kept follows).within
+    (pulled_goes c.limit c.told.harts (suc h) kept follows) refl refl refl refl (λ r. pulled_working (suc h) c.gate kept follows c.told)
 
-pub pull_step_keeps : PullStepKeeps
+pub pull_step_keeps : (kept : Kept) (follows : Then) → KeepsIn (phase.PullStep kept follows)
 pull_step_keeps kept follows c h a after s lt e honest = tick_at c h (phase.PullStep kept follows) a after e
     (call_keeps c h (phase.PullStep kept follows) a after s e refl honest
     (λ held acts. pull_step_done c h kept follows after s e held acts.does.1 acts.fits))
@@ -469,21 +439,12 @@ plant_working m gate kept left rest b l w r false z = record {
 
 plant_done : (c : Configuration) (h : ℕ) (kept : Kept) (left : ℕ) (after : Told) → Sound c → c.phase h ≡ phase.Plant kept left → holds (c.place h) ≡ true → Changes c.told after (replanted (least left) c.told) → IsTold after → Sound (gives h (planting kept (mask_without left (least left))) after c)
 plant_done c h kept left after s e held g fits =
-    let i : Mine c h (phase.Plant kept left) = mine c h (phase.Plant kept left) s e refl in
     let rest : ℕ = mask_without left (least left) in
-    let z : Bool = rest == 0 in
-    let w : Within (phase.Plant kept left) = (plant_inside kept left).within in
-    let range : KeepsInRange c.limit c.told.harts (suc h) (planting kept rest) = planting_range c.limit c.told.harts (suc h) kept rest i.lead.range.0 (rest_below left i.lead.range.1) z refl in
-    elim (cases_Bool c.told.over) [
-      | inl o ↦ subst (λ b. Sound (gives h (planting kept rest) b c)) (sym (g.ended o))
-          (ended_gives c h (phase.Plant kept left) (planting kept rest) s e w (planting_inside kept rest z) (planting_session kept rest z) held o range)
-      | inr q ↦ subst (λ b. Sound (gives h (planting kept rest) b c)) (sym (g.working q))
-          (inside_gives c h (phase.Plant kept left) (planting kept rest) (replanted (least left) c.told) s e w (planting_inside kept rest z) (planting_session kept rest z) held
-          (subst IsTold (g.working q) fits) refl (mask_marked c h (phase.Plant kept left) (replanted (least left) c.told) i refl) (λ o. o) (omega arith) refl range
-          (λ x. plant_working (suc h) c.gate kept left rest c.told i.lead.range.1 (i.lead.working x) refl z refl))
-    ]
+    changed_gives c h (phase.Plant kept left) (planting kept rest) (replanted (least left) c.told) after s e held g fits (plant_inside kept left).within
+    (λ r. planting_goes c.limit c.told.harts (suc h) kept rest r.0 (rest_below left r.1) (rest == 0) refl) refl refl refl refl
+    (λ r w. plant_working (suc h) c.gate kept left rest c.told r.1 w refl (rest == 0) refl)
 
-pub plant_keeps : PlantKeeps
+pub plant_keeps : (kept : Kept) (left : ℕ) → KeepsIn (phase.Plant kept left)
 plant_keeps kept left c h a after s lt e honest = tick_at c h (phase.Plant kept left) a after e
     (call_keeps c h (phase.Plant kept left) a after s e refl honest
     (λ held acts. plant_done c h kept left after s e held acts.does.1 acts.fits))

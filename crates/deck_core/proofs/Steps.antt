@@ -1,5 +1,5 @@
 -- What a tick moves: the hart's own phase and place, and the bus where it makes a call. All else stays.
-use Rattle.std.proofs.Common.{◌≡◌, ℕ, suc, ◌%◌, ◌==◌, ◌&&◌, Bool, true, false, refl, sym, ◌∙◌, ap, subst, inl, inr, if◌then◌else◌}
+use Rattle.std.proofs.Common.{◌≡◌, ℕ, suc, ◌%◌, ◌==◌, ◌&&◌, Bool, true, false, refl, sym, subst, inl, inr, if◌then◌else◌}
 use Rattle.std.proofs.lemmas.Bool.{cases_Bool, both_ways}
 use Rattle.deck_core.specs.contract.Told.{Told}
 use Rattle.deck_core.specs.ticks.Configuration.{Configuration, put}

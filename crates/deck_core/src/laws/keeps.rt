@@ -1,130 +1,131 @@
 //! The laws of the protocol over whole configurations: each tick keeps the invariant, phase by phase. A layer above calls
-//! the one of its step, or cites the statement of `specs/Laws.antt`. None of these functions does anything.
-ghost use Rattle.deck_core.specs.laws.Keeps.{PeekKeeps, TakeKeeps, GiveKeeps, FinishedLeaves, RunKeeps, CalledKeeps, MarkKeeps, ParkedKeeps, UnmarkKeeps, WishKeeps, WantKeeps, OwnKeeps, ShutKeeps, SendKeeps, GatherKeeps, EnterKeeps, PullKeeps, LinesKeeps, PlantStepKeeps, PassStepKeeps, PullStepKeeps, PlantKeeps, CloseKeeps, OpenGateKeeps, DropKeeps, FreeKeeps, FinishedKeeps, EveryTickKeeps, EveryPlanKeeps};
+//! the one of its step, or cites the statement of `specs/laws/Keeps.antt`. None of these functions does anything.
+ghost use Rattle.deck_core.specs.laws.Keeps.{KeepsIn, KeepsFor, KeepsForBoth, PeekKeeps, TakeKeeps, GiveKeeps, FinishedLeaves, EveryTickKeeps, EveryPlanKeeps};
+ghost use Rattle.deck_core.specs.declared.plain.phase.Phase.{Phase};
 
 /// A hart's step outside a session, by any hart and with any honest bus, keeps the invariant.
 #[tactic(auto, using(crate::proofs::RunPhase::run_keeps))]
 pub fn run_keeps()
-    ensures { RunKeeps }
+    ensures { KeepsIn Phase.Run }
 {}
 
 /// The load of the gate's number after a call keeps it.
 #[tactic(auto, using(crate::proofs::Outside::called_keeps))]
 pub fn called_keeps()
-    ensures { CalledKeeps }
+    ensures { KeepsIn Phase.Called }
 {}
 
 /// A hart's marking itself keeps it.
 pub fn mark_keeps()
-    ensures { MarkKeeps }
+    ensures { KeepsFor Phase.Mark }
 {}
 
 /// A parked hart's load of the gate's number keeps it.
 pub fn parked_keeps()
-    ensures { ParkedKeeps }
+    ensures { KeepsFor Phase.Parked }
 {}
 
 /// The removal of a mark keeps it.
 pub fn unmark_keeps()
-    ensures { UnmarkKeeps }
+    ensures { KeepsFor Phase.Unmark }
 {}
 
 /// A hart's saying that it wants the prompt keeps it.
 #[tactic(auto, using(crate::proofs::Outside::wish_keeps))]
 pub fn wish_keeps()
-    ensures { WishKeeps }
+    ensures { KeepsIn Phase.Wish }
 {}
 
 /// The attempt to become the master keeps it.
 #[tactic(auto, using(crate::proofs::Outside::want_keeps))]
 pub fn want_keeps()
-    ensures { WantKeeps }
+    ensures { KeepsIn Phase.Want }
 {}
 
 /// The check of the master's trap keeps it.
 #[tactic(auto, using(crate::proofs::Elects::own_keeps))]
 pub fn own_keeps()
-    ensures { OwnKeeps }
+    ensures { KeepsIn Phase.Own }
 {}
 
 /// The shutting of the gate keeps it.
 #[tactic(auto, using(crate::proofs::Elects::shut_keeps))]
 pub fn shut_keeps()
-    ensures { ShutKeeps }
+    ensures { KeepsIn Phase.Shut }
 {}
 
 /// The calls to the other harts keep it.
 pub fn send_keeps()
-    ensures { SendKeeps }
+    ensures { KeepsFor Phase.Send }
 {}
 
 /// The looks at the other harts' words keep it.
 pub fn gather_keeps()
-    ensures { GatherKeeps }
+    ensures { KeepsFor Phase.Gather }
 {}
 
 /// The opening of a session, for the first time or again, keeps it.
 pub fn enter_keeps()
-    ensures { EnterKeeps }
+    ensures { KeepsForBoth Phase.Enter }
 {}
 
 /// The removal of a planted word keeps it.
 pub fn pull_keeps()
-    ensures { PullKeeps }
+    ensures { KeepsForBoth Phase.Pull }
 {}
 
 /// A script line keeps it.
 pub fn lines_keeps()
-    ensures { LinesKeeps }
+    ensures { KeepsFor Phase.Lines }
 {}
 
 /// The planting of the step word keeps it.
 pub fn plant_step_keeps()
-    ensures { PlantStepKeeps }
+    ensures { KeepsForBoth Phase.PlantStep }
 {}
 
 /// The instruction of a single-step pass keeps it.
 pub fn pass_step_keeps()
-    ensures { PassStepKeeps }
+    ensures { KeepsForBoth Phase.PassStep }
 {}
 
 /// The removal of the step word keeps it.
 pub fn pull_step_keeps()
-    ensures { PullStepKeeps }
+    ensures { KeepsForBoth Phase.PullStep }
 {}
 
 /// The planting of a place keeps it.
 pub fn plant_keeps()
-    ensures { PlantKeeps }
+    ensures { KeepsForBoth Phase.Plant }
 {}
 
 /// The closing of a session keeps it.
 pub fn close_keeps()
-    ensures { CloseKeeps }
+    ensures { KeepsFor Phase.Close }
 {}
 
 /// The opening of the gate keeps it.
 #[tactic(auto, using(crate::proofs::Leaves::open_gate_keeps))]
 pub fn open_gate_keeps()
-    ensures { OpenGateKeeps }
+    ensures { KeepsIn Phase.OpenGate }
 {}
 
 /// The master's taking back of its own word keeps it.
 #[tactic(auto, using(crate::proofs::Leaves::drop_keeps))]
 pub fn drop_keeps()
-    ensures { DropKeeps }
+    ensures { KeepsIn Phase.Drop }
 {}
 
 /// The freeing of the master word keeps it.
 #[tactic(auto, using(crate::proofs::Leaves::free_keeps))]
 pub fn free_keeps()
-    ensures { FreeKeeps }
+    ensures { KeepsIn Phase.Free }
 {}
 
 /// A finished hart keeps it.
 #[tactic(auto, using(crate::proofs::Outside::finished_keeps))]
 pub fn finished_keeps()
-    ensures { FinishedKeeps }
+    ensures { KeepsIn Phase.Finished }
 {}
 
 /// Each tick keeps the invariant, whichever hart's it is.
