@@ -1,17 +1,17 @@
 -- Where the word at the only hart's pc is next and doesn't fault, its instruction is the first step that is allowed.
-use Rattle.std.proofs.Common.{◌≡◌, ℕ, ◌<◌, ◌==◌, ◌&&◌, ◌||◌, Bool, true, false, not, cond, length, Option, Some, None, Ok, nat_lt, is_none, refl, sym, ap, ◌∙◌, arith}
+use Rattle.std.proofs.Common.{◌≡◌, ℕ, ◌<◌, ◌&&◌, ◌||◌, Bool, true, false, not, cond, Option, Some, None, nat_lt, is_none, refl, sym, ap, ◌∙◌}
 use Rattle.std.proofs.lemmas.Bool.{lt-ltb}
 use Rattle.mach_base.specs.Machine.{Machine}
 use Rattle.mach_base.specs.declared.event.Hart.{Hart}
 use Rattle.trap_ipi.specs.Interrupt.{is_takeable}
 use Rattle.atom_mach.specs.declared.step.Mode.{Mode}
 use Rattle.atom_mach.specs.declared.step.AStep.TheVariants.{Instr, Intr, Session}
-use Rattle.atom_mach.specs.State.{State, Done, hart_count, context_at}
-use Rattle.atom_mach.specs.Traps.{fault_of, fault_of_fetched, trap, executed, console_text}
+use Rattle.atom_mach.specs.State.{State, hart_count, context_at}
+use Rattle.atom_mach.specs.Traps.{fault_of, trap, executed, console_text}
 use Rattle.atom_mach.specs.Modes.{mode_after, runs}
 use Rattle.atom_mach.specs.Session.{is_hart}
 use Rattle.atom_mach.specs.Step.{does, may_run, may_pass, may_take, trap_in}
-use Rattle.atom_mach.specs.Run.{first_allowed, Turns}
+use Rattle.atom_mach.specs.Run.{first_allowed}
 use Rattle.atom_mach.specs.NextWord.{IsNext}
 use Rattle.atom_mach.proofs.Booleans.{cond_false, and_false}
 use Rattle.atom_mach.proofs.FirstSteps.{first_allowed-Instr}

@@ -1,13 +1,12 @@
 use Rattle.std.proofs.Common.{◌≡◌, ◌<◌, ◌++◌, Some, ap, sym, ◌∙◌, refl, arith}
 use Rattle.std.specs.Option.{option_to_list}
-use Rattle.mach_base.specs.declared.event.Hart.{Hart}
 use Rattle.atom_mach.specs.declared.step.Mode.{Mode}
 use Rattle.atom_mach.specs.declared.step.Mode.TheVariants.{Free}
 use Rattle.atom_mach.specs.declared.step.AStep.TheVariants.{Instr}
-use Rattle.atom_mach.specs.State.{State, hart_count}
+use Rattle.atom_mach.specs.State.{hart_count}
 use Rattle.atom_mach.specs.Traps.{console_text}
 use Rattle.atom_mach.specs.Modes.{mode_after}
-use Rattle.atom_mach.specs.Core.{machine_of, state_of}
+use Rattle.atom_mach.specs.Core.{state_of}
 use Rattle.atom_mach.specs.NextWord.{IsNext}
 use Rattle.atom_mach.proofs.Allowed.{alone_of}
 use Rattle.atom_mach.proofs.LessWork.{less-Instr}
