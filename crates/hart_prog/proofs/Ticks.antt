@@ -6,7 +6,7 @@ use Rattle.deck_core.specs.ticks.Phases.{holds, is_finished}
 use Rattle.deck_core.specs.ticks.NextPhase.{is_transaction, act_of, after_answer}
 use Rattle.deck_core.specs.ticks.Tick.{tick, tick_in, makes_call}
 use Rattle.deck_core.specs.ticks.Run.{BusMoves}
-use Rattle.deck_core.specs.decks.Seat.{Seat, Agrees, Found, WholeTicks, WholeGives, in_phase, after_its_call, is_answer_of}
+use Rattle.deck_core.specs.decks.Seat.{Seat, Agrees, Found, WholeTicks, WholeGives, in_phase, at_place, after_its_call, is_answer_of, seen_at}
 use Rattle.deck_core.specs.declared.plain.phase.Phase.{Phase}
 use Rattle.deck_core.specs.declared.plain.phase.Phase.TheVariants as phase
 use Rattle.deck_core.specs.declared.plain.phase.Place.{Place}
@@ -22,7 +22,7 @@ use Rattle.hart_prog.specs.declared.progress.At.TheVariants as at
 use Rattle.hart_prog.specs.declared.progress.Progress.{Progress}
 use Rattle.hart_prog.specs.declared.progress.Progress.TheVariants as progress
 use Rattle.hart_prog.specs.declared.prog.Prog.{Prog}
-use Rattle.hart_prog.proofs.Seats.{transaction_unfinished, word_undone, give_is, give_done}
+use Rattle.hart_prog.proofs.Seats.{peek_is, take_is, give_is, transaction_unfinished, word_undone, give_done}
 
 -- a tick without a call, in the whole configuration
 whole_quiet : (seat : Seat) (whole after : Option Configuration) → Agrees seat whole → calls_now seat ≡ false → WholeTicks seat.hart whole after → WholeTicksWith seat.hart answer.Send whole after
@@ -114,6 +114,30 @@ turn_advances does prog next before after here there whole whole_after at_next t
 whole_call : (h : ℕ) (a : Answer) (whole after : Option Configuration) → WholeGives h a whole after → WholeTicksWith h a whole after
 whole_call h a None after t = t
 whole_call h a (Some c) after t = (t.0, (tick h a t.0 c, (t.1.1, record { honest = λ m. t.1.0; ticked = refl })))
+
+-- a load of the turn word that found it free, and one that found it busy
+pub peek_advances : {B : Type 0} (does : Act → B → Answer → B → Type 0) (prog next : Prog) (before after : Seat) (here there : B) (whole whole_after : Option Configuration) (word : ℕ) → Stands prog before → Agrees before whole → is_transaction prog.phase ≡ true → prog.at ≡ at.Peek → Goes prog next prog.phase at.Take → after ≡ at_place (place.Take word) before → there ≡ here → WholeTicks before.hart whole whole_after → Found true (finds_turn before place.Peek) whole → Advances does next before after here there whole whole_after progress.Again
+peek_advances does prog next before after here there whole whole_after word s a trans e g seat stays ticks saw =
+    let stood : before.place ≡ place.Peek = peek_is before.place (ap (λ x. is_at x before.place) (sym e) ∙ s.place) in
+    turn_advances does prog next before after here there whole whole_after at.Take (place.Take word) true progress.Again s a trans (ap holds stood) g seat refl stays ticks
+    (subst (λ q. Found true (finds_turn before q) whole) (sym stood) saw) (ap (λ q. turn_progress q true answer.Send) (sym stood)) refl
+
+pub peek_waits : {B : Type 0} (does : Act → B → Answer → B → Type 0) (prog next : Prog) (before after : Seat) (here there : B) (whole whole_after : Option Configuration) → Stands prog before → Agrees before whole → is_transaction prog.phase ≡ true → prog.at ≡ at.Peek → Goes prog next prog.phase at.Peek → after ≡ record before { idle = false } → there ≡ here → WholeTicks before.hart whole whole_after → Found false (finds_turn before place.Peek) whole → Advances does next before after here there whole whole_after progress.Waits
+peek_waits does prog next before after here there whole whole_after s a trans e g seat stays ticks saw =
+    let stood : before.place ≡ place.Peek = peek_is before.place (ap (λ x. is_at x before.place) (sym e) ∙ s.place) in
+    turn_advances does prog next before after here there whole whole_after at.Peek before.place false progress.Waits s a trans (ap holds stood) g seat (ap (is_at at.Peek) stood) stays ticks
+    (subst (λ q. Found false (finds_turn before q) whole) (sym stood) saw) (ap (λ q. turn_progress q false answer.Send) (sym stood)) refl
+
+-- the attempt to take the turn
+took : (taken : Bool) → is_at (if taken then at.Give else at.Peek) (if taken then place.Give else place.Peek) ≡ true
+took true = refl
+took false = refl
+
+pub take_advances : {B : Type 0} (does : Act → B → Answer → B → Type 0) (prog next : Prog) (before after : Seat) (here there : B) (whole whole_after : Option Configuration) (taken : Bool) → Stands prog before → Agrees before whole → is_transaction prog.phase ≡ true → prog.at ≡ at.Take → Goes prog next prog.phase (if taken then at.Give else at.Peek) → after ≡ at_place (if taken then place.Give else place.Peek) before → there ≡ here → WholeTicks before.hart whole whole_after → Found taken (finds_turn before (place.Take (seen_at before.place))) whole → Advances does next before after here there whole whole_after progress.Again
+take_advances does prog next before after here there whole whole_after taken s a trans e g seat stays ticks saw =
+    let stood : before.place ≡ place.Take (seen_at before.place) = take_is before.place (ap (λ x. is_at x before.place) (sym e) ∙ s.place) in
+    turn_advances does prog next before after here there whole whole_after (if taken then at.Give else at.Peek) (if taken then place.Give else place.Peek) taken progress.Again s a trans (ap holds stood) g seat (took taken) stays ticks
+    (subst (λ q. Found taken (finds_turn before q) whole) (sym stood) saw) (ap (λ q. turn_progress q taken answer.Send) (sym stood)) refl
 
 saw_call : (seat : Seat) (whole : Option Configuration) → seat.place ≡ place.Give → Found true (finds_turn seat seat.place) whole
 saw_call seat whole e = subst (λ q. Found true (finds_turn seat q) whole) (sym e) (found_true whole)

@@ -30,7 +30,6 @@ impl Prog {
     ghost use Rattle.deck_core.specs.ticks.Phases.{is_finished};
     ghost use Rattle.deck_core.specs.ticks.NextPhase.{is_transaction};
     ghost use Rattle.hart_prog.specs.Program.{Stands, Moves, Advances, IsNew, is_slaves, is_masters_word};
-    ghost use Rattle.hart_prog.specs.declared.progress.At.{At};
 
     /// The program of a hart that runs, before its first tick.
     pub fn new(h: Hart, harts: u8, limit: u32) -> Prog
@@ -59,11 +58,7 @@ impl Prog {
         ensures origin { D.SameOrigin deck.old deck.new }
     {
         if is_transaction(self.phase) {
-            match self.at {
-                At::Peek => self.peek(deck),
-                At::Take => self.take(deck),
-                At::Give => self.give(deck),
-            }
+            self.transact(deck)
         } else {
             match self.phase {
                 Phase::Finished => Progress::Finished,
@@ -72,57 +67,41 @@ impl Prog {
         }
     }
 
-    /// Loads the turn word.
-    fn peek<D: Deck>(&mut self, deck: &mut D) -> Progress
+    /// A tick of a transaction: loads the turn word, tries to take the turn, or makes the phase's call. After a turn that
+    /// was lost, the next tick is the load again.
+    fn transact<D: Deck>(&mut self, deck: &mut D) -> Progress
         requires stands { Stands self.old (D.seat deck.old) }
         requires ready { D.IsReady deck.old }
         requires phase { IsTrue (is_transaction self.old.phase) }
-        requires place { self.old.at ≡ At.Peek }
         ensures ticks { Advances D.Does self.new (D.seat deck.old) (D.seat deck.new) (D.bus deck.old) (D.bus deck.new) (D.whole deck.old) (D.whole deck.new) result }
         ensures ready { D.IsReady deck.new }
         ensures origin { D.SameOrigin deck.old deck.new }
     {
-        if deck.peek_turn() {
-            self.at = At::Take;
-            Progress::Again
-        } else {
-            Progress::Waits
+        match self.at {
+            At::Peek => {
+                if deck.peek_turn() {
+                    self.at = At::Take;
+                    Progress::Again
+                } else {
+                    Progress::Waits
+                }
+            }
+            At::Take => {
+                if deck.take_turn() {
+                    self.at = At::Give;
+                    Progress::Again
+                } else {
+                    self.at = At::Peek;
+                    Progress::Again
+                }
+            }
+            At::Give => {
+                let answer = deck.give(act_of(self.hart, self.phase));
+                self.phase = after_answer(self.harts, self.hart, self.phase, answer);
+                self.at = At::Peek;
+                answered(answer)
+            }
         }
-    }
-
-    /// Tries to take the turn; the next tick is the load again where it is lost.
-    fn take<D: Deck>(&mut self, deck: &mut D) -> Progress
-        requires stands { Stands self.old (D.seat deck.old) }
-        requires ready { D.IsReady deck.old }
-        requires phase { IsTrue (is_transaction self.old.phase) }
-        requires place { self.old.at ≡ At.Take }
-        ensures ticks { Advances D.Does self.new (D.seat deck.old) (D.seat deck.new) (D.bus deck.old) (D.bus deck.new) (D.whole deck.old) (D.whole deck.new) result }
-        ensures ready { D.IsReady deck.new }
-        ensures origin { D.SameOrigin deck.old deck.new }
-    {
-        if deck.take_turn() {
-            self.at = At::Give;
-            Progress::Again
-        } else {
-            self.at = At::Peek;
-            Progress::Again
-        }
-    }
-
-    /// Makes the phase's call.
-    fn give<D: Deck>(&mut self, deck: &mut D) -> Progress
-        requires stands { Stands self.old (D.seat deck.old) }
-        requires ready { D.IsReady deck.old }
-        requires phase { IsTrue (is_transaction self.old.phase) }
-        requires place { self.old.at ≡ At.Give }
-        ensures ticks { Advances D.Does self.new (D.seat deck.old) (D.seat deck.new) (D.bus deck.old) (D.bus deck.new) (D.whole deck.old) (D.whole deck.new) result }
-        ensures ready { D.IsReady deck.new }
-        ensures origin { D.SameOrigin deck.old deck.new }
-    {
-        let answer = deck.give(act_of(self.hart, self.phase));
-        self.phase = after_answer(self.harts, self.hart, self.phase, answer);
-        self.at = At::Peek;
-        answered(answer)
     }
 
     /// A tick on a word of its own or of the master, or on the gate.
@@ -172,15 +151,16 @@ impl Prog {
         ensures ready { D.IsReady deck.new }
         ensures origin { D.SameOrigin deck.old deck.new }
     {
-        match self.phase {
-            Phase::Called => (after_gate(self.phase, deck.see_gate()), true),
+        let phase = self.phase;
+        match phase {
+            Phase::Called => (after_gate(phase, deck.see_gate()), true),
             Phase::Mark { gate } => {
                 deck.mark(gate);
                 (Phase::Parked { gate }, true)
             }
             Phase::Parked { gate: at } => {
                 let gate = deck.see_gate();
-                (after_gate(self.phase, gate), gate != at)
+                (after_gate(phase, gate), gate != at)
             }
             Phase::Unmark { gate: _ } => {
                 deck.clear();

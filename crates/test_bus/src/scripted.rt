@@ -4,6 +4,7 @@ ghost use Rattle.std.specs.Prelude.{◌≡◌, ◌<◌, ◌≤◌, ◌^◌, ◌|
 ghost use Rattle.std.proofs.Common.{rules};
 ghost use Rattle.deck_core.specs.contract.Told.{told_of, IsOpening};
 
+use crate::quiet::QUIET;
 use deck_core::{Bus, Entered, Lined, Notes, Passed, Sitting, Stage, Turned};
 use mach_base::{Ending, Hart, Reason, all_but, has_bit, mask_with, mask_without};
 
@@ -28,22 +29,11 @@ pub fn small_bus(traps: u64) -> SmallBus
     ensures opening { IsOpening (⟦<SmallBus as Bus>⟧.told result) }
     ensures two { (⟦<SmallBus as Bus>⟧.told result).harts ≡ 2 }
 {
+    let mut notes = QUIET;
+    notes.traps = traps;
     SmallBus {
         mask: 0,
-        notes: Notes {
-            planted: 0,
-            enabled: 0,
-            step: None,
-            session: None,
-            lines: 0,
-            sends: 0,
-            stepped: false,
-            over: false,
-            traps,
-            faults: 0,
-            next: None,
-            plantable: false,
-        },
+        notes,
         called: false,
         ended: None,
     }

@@ -1,8 +1,0 @@
-use Rattle.std.proofs.Common.{false, refl}
-use Rattle.std.proofs.lemmas.Bool.{both_ways}
-use Rattle.deck_core.specs.declared.plain.act.Act.TheVariants as act
-use Rattle.deck_core.proofs.Allowed.{allowed_legal}
-use Rattle.hart_prog.proofs.tests.ending_bus.EndingBusBus.plant_step.Goals as goal
-
-pub returns-clause-gives : goal.returns-clause-gives
-returns-clause-gives c = record { ended = λ over. refl; working = λ works. absurd (both_ways false refl (allowed_legal (act.PlantStep c.args._at) _ c.requires works)) }
