@@ -1,11 +1,13 @@
 -- Memory with planted words: what its bytes are in truth, and where `ebreak` is written over them.
-use Rattle.std.specs.Prelude.{◌≡◌, ℕ, zero, suc, ◌==◌, ◌||◌, Bool, true, false, List, [], ◌∷◌, length, replicate, slice_index_or, Option, Some, None, is_some, if◌then◌else◌}
-use Rattle.mach_base.specs.Machine.{Memory}
+use Rattle.std.specs.Prelude.{◌≡◌, ℕ, zero, suc, ◌==◌, ◌||◌, Bool, true, false, List, [], ◌∷◌, length, replicate, slice_index_or, slice_set, Option, Some, None, is_some, if◌then◌else◌}
+use Rattle.mach_base.specs.Machine.{Context, Memory}
 use Rattle.mach_base.specs.Masks.{mask_with}
 use Rattle.mach_base.specs.declared.limits.TheConstants.{PLACES}
 use Rattle.mem_map.specs.Access.{access_fault, after_store}
 use Rattle.mem_map.specs.declared.rights.Access.TheVariants.{Fetch}
-use Rattle.mem_map.specs.Pages.{PagedMemory}
+use Rattle.hart_ctx.specs.Context.{context_of}
+use Rattle.hart_step.specs.Execution.{fault_for, memory_after, unless_faulted}
+use Rattle.mem_map.specs.Pages.{PagedMemory, page_base, with_text}
 use Rattle.rv_table.specs.Rows.{ebreak_word}
 
 -- True memory; for each breakpoint place the address of the word at which it is planted, if it is; and the address of the
@@ -51,6 +53,17 @@ raw_memory p = with_ebreaks p.memory (planted_addresses p)
 -- raw memory with its marks
 abbrev pub raw_pages : PlantedPages → PagedMemory
 raw_pages p = record { memory = raw_memory p.planted; changed = p.changed }
+
+-- planted memory after hart h has executed the word: as before, where it faults
+abbrev pub after_word : PlantedMemory → List Context → ℕ → ℕ → PlantedMemory
+after_word p cs h word = unless_faulted (fault_for cs p.memory h word) p (record p { memory = memory_after p.memory (context_of cs h) word })
+
+-- planted memory after a text is written as a whole page, and the page is marked
+abbrev pub with_page : PlantedPages → ℕ → List ℕ → PlantedPages
+with_page p page text = record {
+  planted = record p.planted { memory = with_text p.planted.memory (page_base p.planted.memory.segments page) text };
+  changed = slice_set p.changed page true;
+}
 
 -- fetching at each of the addresses doesn't fault: a whole word of text is there
 abbrev pub AreText : Memory → List (Option ℕ) → Type 0

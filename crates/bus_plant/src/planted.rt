@@ -3,9 +3,9 @@ ghost use Rattle.mach_base.specs.Machine.{is_text_word};
 ghost use Rattle.mach_base.specs.Masks.{has_bit};
 ghost use Rattle.hart_ctx.specs.Context.{context_of};
 ghost use Rattle.mem_map.specs.Access.{fetch_result};
-ghost use Rattle.mem_map.specs.Pages.{KeepsUnmarked, page_base, page_length, with_text};
-ghost use Rattle.hart_step.specs.Execution.{contexts_after, memory_after, byte_sent, did_by, fault_for, unless_faulted};
-ghost use Rattle.bus_plant.specs.Planted.{IsPlanted, is_planted, planted_mask, raw_pages, unplanted};
+ghost use Rattle.mem_map.specs.Pages.{KeepsUnmarked, page_length};
+ghost use Rattle.hart_step.specs.Execution.{contexts_after, byte_sent, did_by, fault_for, unless_faulted};
+ghost use Rattle.bus_plant.specs.Planted.{IsPlanted, after_word, is_planted, planted_mask, raw_pages, unplanted, with_page};
 
 use crate::saved::{
     Saved, address_at, address_of, mask_of, poke_places, poke_saved, restore_word, save_word,
@@ -147,7 +147,7 @@ impl Planted {
         requires { h.0 < length ctxs.old }
         ensures answer { result ≡ did_by (fault_for ctxs.old self.old.planted.memory h.0 word) (byte_sent ctxs.old h.0 word) }
         ensures contexts { ctxs.new ≡ unless_faulted (fault_for ctxs.old self.old.planted.memory h.0 word) ctxs.old (contexts_after ctxs.old self.old.planted.memory h.0 word) }
-        ensures memory { self.new.planted ≡ unless_faulted (fault_for ctxs.old self.old.planted.memory h.0 word) self.old.planted (record self.old.planted { memory = memory_after self.old.planted.memory (context_of ctxs.old h.0) word }) }
+        ensures memory { self.new.planted ≡ after_word self.old.planted ctxs.old h.0 word }
         ensures pages { KeepsUnmarked (raw_pages self.old) (raw_pages self.new) }
     {
         hart_step::exec(ctxs, &mut self.raw, h, word)
@@ -177,7 +177,7 @@ impl Planted {
         requires step { self.old.planted.step ≡ None }
         requires page { number < length self.old.changed }
         requires size { length text.now ≡ page_length self.old.planted.memory.segments number }
-        ensures { self.new ≡ record { planted = record self.old.planted { memory = with_text self.old.planted.memory (page_base self.old.planted.memory.segments number) text.now }; changed = slice_set self.old.changed number true } }
+        ensures { self.new ≡ with_page self.old number text.now }
     {
         self.raw.put_page(number, text);
     }

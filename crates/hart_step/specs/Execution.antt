@@ -127,6 +127,10 @@ fault_for cs m h word = word_fault (context_of cs h) (length cs) m word
 abbrev pub own_fault_for : Class → List Context → Memory → ℕ → Fields → Option Fault
 own_fault_for class cs m h f = own_fault class (context_of cs h) (length cs) m f
 
+-- memory after an instruction of this class of hart h: as before, where it faults
+abbrev pub own_memory_after : Class → List Context → Memory → ℕ → Fields → Memory
+own_memory_after class cs m h f = unless_faulted (own_fault_for class cs m h f) m (memory_in class m (context_of cs h) f)
+
 -- it touches registers and the pc alone
 abbrev pub IsLocal : Class → Type 0
 IsLocal (class.Load width signed) = ⊥

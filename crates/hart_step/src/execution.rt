@@ -13,7 +13,7 @@ ghost use Rattle.mem_map.specs.declared.rights.Access.TheVariants as access;
 ghost use Rattle.trap_ipi.specs.Service.{after_service, answer};
 ghost use Rattle.hart_step.specs.Control.{target};
 ghost use Rattle.hart_step.specs.Faults.{target_fault, service_fault};
-ghost use Rattle.hart_step.specs.Execution.{IsLocal, with_result, context_after, served_byte, holds_reservation, contexts_after_store, contexts_in, memory_in, byte_in, contexts_after, memory_after, byte_sent, did_by, fault_for, own_fault_for, unless_faulted};
+ghost use Rattle.hart_step.specs.Execution.{IsLocal, with_result, context_after, served_byte, holds_reservation, contexts_after_store, contexts_in, memory_in, byte_in, contexts_after, memory_after, byte_sent, did_by, fault_for, own_fault_for, own_memory_after, unless_faulted};
 ghost use Rattle.hart_step.specs.declared.execution.Did.TheVariants as did;
 ghost use Rattle.hart_step.specs.declared.class.Class.TheVariants.{Immediate, Registers, Branch, Load, Store, Reserve, Conditional, Atomic};
 
@@ -65,7 +65,7 @@ fn execute(ctxs: &mut [Context], map: &mut Map, h: Hart, class: Class, insn: &In
     requires atomic { (width : ℕ) → class ≡ Atomic width → IsTrue (is_amo insn.now.op) }
     ensures answer { result ≡ did_by (own_fault_for class ctxs.old map.old.memory h.0 (fields_of insn.now)) (byte_in class ctxs.old h.0) }
     ensures contexts { ctxs.new ≡ unless_faulted (own_fault_for class ctxs.old map.old.memory h.0 (fields_of insn.now)) ctxs.old (contexts_in class ctxs.old map.old.memory h.0 (fields_of insn.now)) }
-    ensures memory { map.new.memory ≡ unless_faulted (own_fault_for class ctxs.old map.old.memory h.0 (fields_of insn.now)) map.old.memory (memory_in class map.old.memory (context_of ctxs.old h.0) (fields_of insn.now)) }
+    ensures memory { map.new.memory ≡ own_memory_after class ctxs.old map.old.memory h.0 (fields_of insn.now) }
     ensures pages { KeepsUnmarked map.old map.new }
     ensures faulted { (fault : Fault) → result ≡ did.Fault fault → map.new ≡ map.old }
 {
