@@ -121,35 +121,20 @@ module _ {B : Type 0} (told_by : B → Told) (same : B → B → Type 0) where
   pub want_allowed : (slots id : ℕ) (me : Me (Option (Slot B)) (View B)) → me.0.live ≡ true → me.0.at.place ≡ place.Peek → me.0.at.phase ≡ phase.Wish
       → Allows (Ruled told_by same) slots id me (OWN + me.0.at.hart.0) (λ n. 1) (λ n. Moves after_want (step slots (OWN + me.0.at.hart.0) 1 0 none) me 1)
   want_allowed slots id me live p q s r wide at small =
-      let x : Sits told_by same s r id me.0 = sits told_by same s r id me.0 at live in (
-        moved_to (to_phase phase.Want me.0.at) me.0,
-        table.keeps,
-        tt,
-        own_written s r id me.0 phase.Want 1 x live p refl (want_ticks r.rounds s.words s.views r.told id me.0 (stands s r id me.0 x p) q),
-        refl,
-      )
+      let x : Sits told_by same s r id me.0 = sits told_by same s r id me.0 at live in
+      (moved_to (to_phase phase.Want me.0.at) me.0, table.keeps, tt, own_written s r id me.0 phase.Want 1 x live p refl (want_ticks r.rounds s.words s.views r.told id me.0 (stands s r id me.0 x p) q), refl)
 
   pub clear_allowed : (slots id : ℕ) (me : Me (Option (Slot B)) (View B)) → me.0.live ≡ true → me.0.at.place ≡ place.Peek → clears me.0.at.phase ≡ true
       → Allows (Ruled told_by same) slots id me (OWN + me.0.at.hart.0) (λ n. 0) (λ n. Moves after_clearing (step slots (OWN + me.0.at.hart.0) 0 0 none) me 0)
   clear_allowed slots id me live p q s r wide at small =
-      let x : Sits told_by same s r id me.0 = sits told_by same s r id me.0 at live in (
-        moved_to (to_phase (after_clear me.0.at.phase) me.0.at) me.0,
-        table.keeps,
-        tt,
-        own_written s r id me.0 (after_clear me.0.at.phase) 0 x live p (clear_open me.0.at.phase q) (clearing_ticks r.rounds s.words s.views r.told id me.0 (stands s r id me.0 x p) q),
-        refl,
-      )
+      let x : Sits told_by same s r id me.0 = sits told_by same s r id me.0 at live in
+      (moved_to (to_phase (after_clear me.0.at.phase) me.0.at) me.0, table.keeps, tt, own_written s r id me.0 (after_clear me.0.at.phase) 0 x live p (clear_open me.0.at.phase q) (clearing_ticks r.rounds s.words s.views r.told id me.0 (stands s r id me.0 x p) q), refl)
 
   pub mark_allowed : (slots id gate : ℕ) (me : Me (Option (Slot B)) (View B)) → me.0.live ≡ true → me.0.at.place ≡ place.Peek → me.0.at.phase ≡ phase.Mark gate
       → Allows (Ruled told_by same) slots id me (OWN + me.0.at.hart.0) (λ n. gate) (λ n. Moves after_marking (step slots (OWN + me.0.at.hart.0) gate 0 none) me gate)
   mark_allowed slots id gate me live p q s r wide at small =
-      let x : Sits told_by same s r id me.0 = sits told_by same s r id me.0 at live in (
-        moved_to (to_phase (phase.Parked gate) me.0.at) me.0,
-        table.keeps,
-        tt,
-        own_written s r id me.0 (phase.Parked gate) gate x live p refl (mark_ticks r.rounds s.words s.views r.told id me.0 (stands s r id me.0 x p) gate q),
-        refl,
-      )
+      let x : Sits told_by same s r id me.0 = sits told_by same s r id me.0 at live in
+      (moved_to (to_phase (phase.Parked gate) me.0.at) me.0, table.keeps, tt, own_written s r id me.0 (phase.Parked gate) gate x live p refl (mark_ticks r.rounds s.words s.views r.told id me.0 (stands s r id me.0 x p) gate q), refl)
 
   -- a store to the master word
   master_written : (s : State (Option (Slot B)) (View B)) (r : Ruled told_by same s) (id : ℕ) (v : View B) (p : Phase) (n : ℕ) → Sits told_by same s r id v → v.live ≡ true → v.at.place ≡ place.Peek → is_shut p ≡ false
@@ -162,13 +147,8 @@ module _ {B : Type 0} (told_by : B → Told) (same : B → B → Type 0) where
   pub free_allowed : (slots id : ℕ) (me : Me (Option (Slot B)) (View B)) → me.0.live ≡ true → me.0.at.place ≡ place.Peek → me.0.at.phase ≡ phase.Free
       → Allows (Ruled told_by same) slots id me MASTER (λ n. 0) (λ n. Moves after_freeing (step slots MASTER 0 0 none) me 0)
   free_allowed slots id me live p q s r wide at small =
-      let x : Sits told_by same s r id me.0 = sits told_by same s r id me.0 at live in (
-        moved_to (to_phase phase.Run me.0.at) me.0,
-        table.keeps,
-        tt,
-        master_written s r id me.0 phase.Run 0 x live p refl (free_ticks r.rounds s.words s.views r.told id me.0 (stands s r id me.0 x p) q),
-        refl,
-      )
+      let x : Sits told_by same s r id me.0 = sits told_by same s r id me.0 at live in
+      (moved_to (to_phase phase.Run me.0.at) me.0, table.keeps, tt, master_written s r id me.0 phase.Run 0 x live p refl (free_ticks r.rounds s.words s.views r.told id me.0 (stands s r id me.0 x p) q), refl)
 
   pub try_allowed : (slots id : ℕ) (me : Me (Option (Slot B)) (View B)) → me.0.live ≡ true → me.0.at.place ≡ place.Peek → me.0.at.phase ≡ phase.Want
       → Allows (Ruled told_by same) slots id me MASTER (λ n. either (n == 0) (suc me.0.at.hart.0) n) (Tries (step slots MASTER 0 (suc me.0.at.hart.0) none) me)
@@ -217,37 +197,21 @@ module _ {B : Type 0} (told_by : B → Told) (same : B → B → Type 0) where
       → Allows (Ruled told_by same) slots id me GATE (λ n. (n + 1) % 2 ^ 64) (Shuts (step slots GATE 1 0 none) me)
   shut_allowed slots id me live p q s r wide at small =
       let x : Sits told_by same s r id me.0 = sits told_by same s r id me.0 at live in
-      let found : ℕ = word s.words GATE in (
-        moved_to (after_shutting found me.0.at) me.0,
-        table.keeps,
-        tt,
-        gate_written s r id me.0 (after_shutting found me.0.at) x live p (ap is_masters q) refl refl refl refl refl (λ e. refl) (shut_ticks r.rounds s.words s.views r.told id me.0 (stands s r id me.0 x p) q),
-        (refl, gate_small s r),
-      )
+      let found : ℕ = word s.words GATE in
+      (moved_to (after_shutting found me.0.at) me.0, table.keeps, tt, gate_written s r id me.0 (after_shutting found me.0.at) x live p (ap is_masters q) refl refl refl refl refl (λ e. refl) (shut_ticks r.rounds s.words s.views r.told id me.0 (stands s r id me.0 x p) q), (refl, gate_small s r))
 
   pub open_allowed : (slots id : ℕ) (me : Me (Option (Slot B)) (View B)) → me.0.live ≡ true → me.0.at.place ≡ place.Peek → me.0.at.phase ≡ phase.OpenGate
       → Allows (Ruled told_by same) slots id me GATE (λ n. (n + 1) % 2 ^ 64) (Moves after_opening (step slots GATE 1 0 none) me)
   open_allowed slots id me live p q s r wide at small =
-      let x : Sits told_by same s r id me.0 = sits told_by same s r id me.0 at live in (
-        moved_to (to_phase phase.Drop me.0.at) me.0,
-        table.keeps,
-        tt,
-        gate_written s r id me.0 (to_phase phase.Drop me.0.at) x live p (ap is_masters q) refl refl refl refl refl (λ e. absurd (both_ways false refl e)) (open_ticks r.rounds s.words s.views r.told id me.0 (stands s r id me.0 x p) q),
-        refl,
-      )
+      let x : Sits told_by same s r id me.0 = sits told_by same s r id me.0 at live in
+      (moved_to (to_phase phase.Drop me.0.at) me.0, table.keeps, tt, gate_written s r id me.0 (to_phase phase.Drop me.0.at) x live p (ap is_masters q) refl refl refl refl refl (λ e. absurd (both_ways false refl e)) (open_ticks r.rounds s.words s.views r.told id me.0 (stands s r id me.0 x p) q), refl)
 
   pub see_allowed : (slots id : ℕ) (me : Me (Option (Slot B)) (View B)) → me.0.live ≡ true → me.0.at.place ≡ place.Peek → sees_gate me.0.at.phase ≡ true
       → Allows (Ruled told_by same) slots id me GATE (λ n. n) (Moves after_seeing (step slots GATE 0 0 none) me)
   see_allowed slots id me live p q s r wide at small =
       let x : Sits told_by same s r id me.0 = sits told_by same s r id me.0 at live in
-      let found : ℕ = word s.words GATE in (
-        moved_to (after_seeing found me.0.at) me.0,
-        table.keeps,
-        tt,
-        loaded s r id me.0 (after_seeing found me.0.at) GATE x live p refl refl refl refl refl (omega arith) (λ e. absurd (both_ways (is_shut (after_gate me.0.at.phase found)) (see_open me.0.at.phase found q) e))
-            (see_ticks r.rounds s.words s.views r.told id me.0 (stands s r id me.0 x p) q),
-        refl,
-      )
+      let found : ℕ = word s.words GATE in
+      (moved_to (after_seeing found me.0.at) me.0, table.keeps, tt, loaded s r id me.0 (after_seeing found me.0.at) GATE x live p refl refl refl refl refl (omega arith) (λ e. absurd (both_ways (is_shut (after_gate me.0.at.phase found)) (see_open me.0.at.phase found q) e)) (see_ticks r.rounds s.words s.views r.told id me.0 (stands s r id me.0 x p) q), refl)
 
   pub look_allowed : (slots id : ℕ) (looks : Looks) (me : Me (Option (Slot B)) (View B)) → me.0.live ≡ true → me.0.at.place ≡ place.Peek → me.0.at.phase ≡ phase.Gather looks → looks.next < 32
       → Allows (Ruled told_by same) slots id me (OWN + looks.next) (λ n. n) (Moves after_looking (step slots (OWN + looks.next) 0 0 none) me)

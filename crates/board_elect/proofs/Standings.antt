@@ -25,6 +25,10 @@ use Rattle.board_turn.proofs.Readies.{steps_on}
 use Rattle.board_elect.specs.declared.masters.Taken.{Taken}
 use Rattle.board_elect.specs.Plays.{after_looking, after_shutting, is_counted, to_phase}
 
+-- outside a transaction the view of a seat is before a load
+pub stands_out : {B : Type 0} {table : TableId} {seat : Seat (Option (Slot B)) (View B)} {at : Standing} → SitsAt table seat at → is_transaction at.phase ≡ false → seat.me.0.at.place ≡ place.Peek
+stands_out r out = ap (λ (a : Standing). a.place) r.view ∙ r.outside out
+
 -- nothing was seen before a load
 saw_none : (h : ℕ) (p : Phase) (at : Place) → at ≡ place.Peek → SawFree h p at
 saw_none h p at e = subst (SawFree h p) (sym e) tt

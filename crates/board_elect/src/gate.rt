@@ -29,10 +29,8 @@ pub fn shut<B: Bus>(board: &Board<B>, pass: &mut Pass<B>)
     ensures ready { IsReady board.now.table.shared.table_id pass.new }
     ensures start { start_of pass.new ≡ start_of pass.old }
 {
-    let found = board
-        .table
-        .shared
-        .fetch_add::<plays::Shut>(&mut pass.seat, GATE, 1);
+    let words = &board.table.shared;
+    let found = words.fetch_add::<plays::Shut>(&mut pass.seat, GATE, 1);
     pass.stand.phase = after_shut(pass.stand.harts, pass.stand.hart);
     pass.stand.gate = found + 1;
 }
@@ -72,10 +70,8 @@ pub fn open_gate<B: Bus>(board: &Board<B>, pass: &mut Pass<B>)
     ensures ready { IsReady board.now.table.shared.table_id pass.new }
     ensures start { start_of pass.new ≡ start_of pass.old }
 {
-    board
-        .table
-        .shared
-        .fetch_add::<plays::OpenGate>(&mut pass.seat, GATE, 1);
+    let words = &board.table.shared;
+    words.fetch_add::<plays::OpenGate>(&mut pass.seat, GATE, 1);
     pass.stand.phase = Phase::Drop;
 }
 
@@ -87,10 +83,8 @@ pub fn see_gate<B: Bus>(board: &Board<B>, pass: &mut Pass<B>) -> u64
     ensures ready { IsReady board.now.table.shared.table_id pass.new }
     ensures start { start_of pass.new ≡ start_of pass.old }
 {
-    let gate = board
-        .table
-        .shared
-        .load::<plays::SeeGate>(&mut pass.seat, GATE);
+    let words = &board.table.shared;
+    let gate = words.load::<plays::SeeGate>(&mut pass.seat, GATE);
     pass.stand.phase = after_gate(pass.stand.phase, gate);
     gate
 }
@@ -104,9 +98,7 @@ pub fn mark<B: Bus>(board: &Board<B>, pass: &mut Pass<B>, gate: u64)
     ensures start { start_of pass.new ≡ start_of pass.old }
 {
     let own = OWN + pass.stand.hart.0 as usize;
-    board
-        .table
-        .shared
-        .store::<plays::MarkSelf>(&mut pass.seat, own, gate);
+    let words = &board.table.shared;
+    words.store::<plays::MarkSelf>(&mut pass.seat, own, gate);
     pass.stand.phase = Phase::Parked { gate };
 }

@@ -26,10 +26,8 @@ pub fn want<B: Bus>(board: &Board<B>, pass: &mut Pass<B>)
     ensures start { start_of pass.new ≡ start_of pass.old }
 {
     let own = OWN + pass.stand.hart.0 as usize;
-    board
-        .table
-        .shared
-        .store::<plays::Want>(&mut pass.seat, own, 1);
+    let words = &board.table.shared;
+    words.store::<plays::Want>(&mut pass.seat, own, 1);
     pass.stand.phase = Phase::Want;
 }
 
@@ -43,10 +41,8 @@ pub fn try_master<B: Bus>(board: &Board<B>, pass: &mut Pass<B>) -> Result<(), Ta
     ensures start { start_of pass.new ≡ start_of pass.old }
 {
     let number = u64::from(pass.stand.hart.0) + 1;
-    let found = board
-        .table
-        .shared
-        .compare_exchange::<plays::TryMaster>(&mut pass.seat, MASTER, 0, number);
+    let words = &board.table.shared;
+    let found = words.compare_exchange::<plays::TryMaster>(&mut pass.seat, MASTER, 0, number);
     if found == 0 {
         pass.stand.phase = Phase::Own;
         return Ok(());
@@ -65,10 +61,8 @@ pub fn clear<B: Bus>(board: &Board<B>, pass: &mut Pass<B>)
     ensures start { start_of pass.new ≡ start_of pass.old }
 {
     let own = OWN + pass.stand.hart.0 as usize;
-    board
-        .table
-        .shared
-        .store::<plays::Clear>(&mut pass.seat, own, 0);
+    let words = &board.table.shared;
+    words.store::<plays::Clear>(&mut pass.seat, own, 0);
     pass.stand.phase = after_clear(pass.stand.phase);
 }
 
@@ -80,9 +74,7 @@ pub fn free<B: Bus>(board: &Board<B>, pass: &mut Pass<B>)
     ensures ready { IsReady board.now.table.shared.table_id pass.new }
     ensures start { start_of pass.new ≡ start_of pass.old }
 {
-    board
-        .table
-        .shared
-        .store::<plays::Free>(&mut pass.seat, MASTER, 0);
+    let words = &board.table.shared;
+    words.store::<plays::Free>(&mut pass.seat, MASTER, 0);
     pass.stand.phase = Phase::Run;
 }

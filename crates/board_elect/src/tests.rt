@@ -6,73 +6,12 @@ ghost use Rattle.board_turn.specs.Ready.{seat_in};
 
 use crate::{BoardSeat, Mark, look};
 use board_turn::{Board, Seated};
-use deck_core::{Bus, Kept, Looks, Phase};
+use deck_core::{Bus, Phase};
 use hart_prog::Prog;
 use mach_base::Hart;
+use std::alloc::Global;
 use std::test::Fail;
-use test_bus::small_bus;
-
-/// A hart, so many of its ticks, and the phases of hart 0 and of hart 1 after them.
-type Row = (u8, u32, Phase, Phase);
-
-const NOBODY: Kept = Kept { late: 0 };
-
-/// Hart 1 is looked at for the first time, and for the second.
-const FIRST_LOOK: Phase = Phase::Gather {
-    looks: Looks {
-        rounds: 0,
-        next: 1,
-        gathered: 0,
-    },
-};
-
-const SECOND_LOOK: Phase = Phase::Gather {
-    looks: Looks {
-        rounds: 1,
-        next: 1,
-        gathered: 0,
-    },
-};
-
-const AGAIN: Phase = Phase::Enter {
-    kept: NOBODY,
-    reopens: true,
-};
-
-const PULLING: Phase = Phase::Pull {
-    kept: NOBODY,
-    left: 8,
-};
-
-const OLD: Phase = Phase::Parked { gate: 3 };
-
-const MARKED: Phase = Phase::Parked { gate: 5 };
-
-/// The first session, and the second up to a look at the old mark of hart 1.
-const ONE_SESSION: [Row; 12] = [
-    (0, 8, Phase::Shut, Phase::Run),
-    (0, 1, Phase::Send { to: 1 }, Phase::Run),
-    (0, 4, SECOND_LOOK, Phase::Run),
-    (1, 5, SECOND_LOOK, OLD),
-    (0, 4, Phase::Lines { kept: NOBODY }, OLD),
-    (0, 15, AGAIN, OLD),
-    (0, 12, Phase::OpenGate, OLD),
-    (1, 1, Phase::OpenGate, OLD),
-    (0, 3, Phase::Run, OLD),
-    (0, 9, Phase::Send { to: 1 }, OLD),
-    (0, 3, FIRST_LOOK, OLD),
-    (0, 1, SECOND_LOOK, OLD),
-];
-
-/// The rest, to the end.
-const THE_OTHER: [Row; 6] = [
-    (1, 7, SECOND_LOOK, MARKED),
-    (0, 4, PULLING, MARKED),
-    (0, 15, Phase::Run, MARKED),
-    (1, 2, Phase::Run, Phase::Run),
-    (0, 3, Phase::Finished, Phase::Run),
-    (1, 3, Phase::Finished, Phase::Finished),
-];
+use test_bus::{OLD_MARK, Row, TO_THE_OLD_MARK, small_bus};
 
 /// Makes so many ticks of a hart.
 fn make_ticks<B: Bus>(seat: &mut BoardSeat<'_, B>, prog: &mut Prog, ticks: u32)
@@ -115,41 +54,32 @@ fn rows_that_hold<B: Bus>(
     rows.len()
 }
 
-/// An old mark doesn't count, and there is no late hart: both sessions, to the end.
-#[test]
-fn an_old_mark_does_not_count(rt: HostRuntime) -> Result<(), Fail> {
-    let Seated { board, first } = Board::new(rt.alloc(), small_bus(1), 2)?;
+/// How many of the rows hold on a board of two harts, with a limit of two rounds, and what the next look of hart 0 then
+/// finds, where it gathers.
+fn rows_on_a_board(alloc: Global, rows: &[Row]) -> Result<(usize, Option<Mark>), Fail> {
+    let Seated { board, first } = Board::new(alloc, small_bus(1), 2)?;
     let mut first = first;
     let second = board.split(&mut first);
     let mut one = BoardSeat::new(&board, first);
     let mut other = BoardSeat::new(&board, second);
     let mut progs = (Prog::new(Hart(0), 2, 2), Prog::new(Hart(1), 2, 2));
-    assert_eq!(rt;
-        rows_that_hold(&mut one, &mut other, &mut progs, &ONE_SESSION),
-        12
-    );
-    assert_eq!(rt;
-        rows_that_hold(&mut one, &mut other, &mut progs, &THE_OTHER),
-        6
-    );
+    let held = rows_that_hold(&mut one, &mut other, &mut progs, rows);
+    Ok((held, look_at_next(one)))
+}
+
+/// An old mark doesn't count, and there is no late hart: both sessions, to the end.
+#[test]
+fn an_old_mark_does_not_count(rt: HostRuntime) -> Result<(), Fail> {
+    let found = rows_on_a_board(rt.alloc(), &OLD_MARK)?;
+    assert_eq!(rt; found, (OLD_MARK.len(), None));
     Ok(())
 }
 
 /// The look itself: it finds the number 3, where the gate is shut as 5.
 #[test]
 fn a_look_tells_the_old_mark(rt: HostRuntime) -> Result<(), Fail> {
-    let Seated { board, first } = Board::new(rt.alloc(), small_bus(1), 2)?;
-    let mut first = first;
-    let second = board.split(&mut first);
-    let mut one = BoardSeat::new(&board, first);
-    let mut other = BoardSeat::new(&board, second);
-    let mut progs = (Prog::new(Hart(0), 2, 2), Prog::new(Hart(1), 2, 2));
-    assert_eq!(rt;
-        rows_that_hold(&mut one, &mut other, &mut progs, &ONE_SESSION),
-        12
-    );
-    let found = look_at_next(one);
-    assert_eq!(rt; found, Some(Mark::Not { seen: 3 }));
+    let found = rows_on_a_board(rt.alloc(), &OLD_MARK[..TO_THE_OLD_MARK])?;
+    assert_eq!(rt; found, (TO_THE_OLD_MARK, Some(Mark::Not { seen: 3 })));
     Ok(())
 }
 

@@ -32,6 +32,10 @@ abbrev pub SawFree : ℕ → Phase → Place → Type 0
 SawFree h p (place.Take seen) = is_busy h p seen ≡ false
 SawFree h p _ = Unit {0}
 
+-- this turn word is why the hart goes without the turn: it is busy, or it isn't the one that was seen and was not busy
+abbrev pub IsInTheWay : Standing → ℕ → Type 0
+IsInTheWay at turn = IsTrue (is_busy at.hart.0 at.phase turn) ⊎ ((seen : ℕ) × ((is_busy at.hart.0 at.phase seen ≡ false) × (turn ≢ seen)))
+
 -- the seat is one of this board, and its view says that the hart stands here; what the phase keeps is in range; the hart is
 -- in a transaction in no phase that is none
 pub record SitsAt {B : Type 0} (table : TableId) (seat : board.Seat (Option (Slot B)) (View B)) (at : Standing) : Type 0 where

@@ -82,7 +82,7 @@ impl<B: Bus> Board<B> {
         requires place { pass.old.stand.place ≡ Peek }
         ensures taken { IfOk result (λ held. HasTaken B.told B.SameOrigin pass.new held) }
         ensures stand { IfOk result (λ held. pass.new.stand ≡ at_place Give pass.old.stand) }
-        ensures busy { IfErr result (λ b. IsTrue (is_busy pass.old.stand.hart.0 pass.old.stand.phase b.seen) ⊎ ((seen : ℕ) × ((is_busy pass.old.stand.hart.0 pass.old.stand.phase seen ≡ false) × (b.seen ≢ seen)))) }
+        ensures busy { IfErr result (λ b. IsInTheWay pass.old.stand b.seen) }
         ensures stays { IfErr result (λ b. pass.new.stand ≡ pass.old.stand) }
         ensures ready { IsReady self.now.table.shared.table_id pass.new }
         ensures start { start_of pass.new ≡ start_of pass.old }
