@@ -1,12 +1,12 @@
 //! The turn: a hart takes it by a load and a compare and exchange, and gives it back with the one call of its phase made.
-ghost use Rattle.std.specs.Prelude.{◌≡◌, ◌≢◌, ◌<◌, ◌≤◌, ℕ, ◌⊎◌, false, IfOk, IfErr, IsTrue};
+ghost use Rattle.std.specs.Prelude.{◌≡◌, ◌≢◌, ◌<◌, ◌≤◌, false, IfOk, IfErr, IsTrue};
 ghost use Rattle.deck_core.specs.decks.Seat.{is_answer_of};
 ghost use Rattle.mach_base.specs.declared.limits.TheConstants.{MASK_HARTS};
 ghost use Rattle.deck_core.specs.ticks.NextPhase.{CanGoOn, act_of, is_transaction};
 ghost use Rattle.deck_core.specs.ticks.Tick.{is_busy};
 ghost use Rattle.deck_core.specs.declared.plain.phase.Place.TheVariants.{Peek, Take, Give};
 ghost use Rattle.board_turn.specs.Plays.{after_call, at_place};
-ghost use Rattle.board_turn.specs.Ready.{IsReady, HasTaken, start_of};
+ghost use Rattle.board_turn.specs.Ready.{IsInTheWay, IsReady, HasTaken, start_of};
 
 use crate::plays::{GiveTurn, PeekTurn, TakeTurn};
 use crate::{Board, Busy, Held, Pass, Slot, Standing, TURN};
