@@ -6,8 +6,8 @@
 //!
 //! So a bus that reserves so much at the start, and room for text again after each line, lacks memory at no other call.
 //! A list of legal entries alone has no such bound: the numbers rest on what the protocol allows, that so many calls are
-//! sent for each line, and one step word planted. It stands on what a bus tells (`plant_told`). There is no code here: its
-//! call does nothing, and its contract is the law.
+//! sent for each line, and one step word planted. It stands on what a bus tells (`plant_told`). There is no code here: the
+//! calls do nothing, and their contracts are the laws.
 #![tactic(auto)]
 
 mod laws;
