@@ -3,8 +3,8 @@
 //! - A word is *planted* where `ebreak` is written over it. A breakpoint place can be planted at one address; besides there
 //!   can be one *step word*.
 //! - *Raw memory* is what the bytes are, with `ebreak` in the planted words; *true memory* has the words that were there
-//!   before. Contracts see a `Planted` as true memory with the addresses of the planted words; raw memory follows from it
-//!   (`specs/Planted.antt`).
+//!   before. Contracts see a `Planted` as true memory with the addresses of the planted words, from which raw memory
+//!   follows, and with the marks of raw memory's pages (`specs/Planted.antt`).
 //! - To *plant* a word and to *pull* it leave true memory as it is. Instructions are executed on raw memory; text is neither
 //!   loaded nor stored, so their effect is that on true memory (`specs/Laws.antt`).
 //!
