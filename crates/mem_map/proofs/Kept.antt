@@ -1,7 +1,7 @@
 -- What writes keep of the pages that have no mark.
-use Rattle.std.proofs.Common.{◌≡◌, ℕ, zero, suc, ◌+◌, ◌-◌, ◌<◌, ◌≤◌, ◌⊎◌, inl, inr, true, false, cond, Bool, List, length, get_or, set, refl, sym, ap, ◌∙◌, arith}
+use Rattle.std.proofs.Common.{◌≡◌, ℕ, zero, suc, ◌+◌, ◌<◌, ◌≤◌, ◌⊎◌, inl, inr, true, false, cond, Bool, List, length, get_or, set, refl, sym, ap, ◌∙◌, arith}
 use Rattle.std.specs.Prelude.{Some, None}
-use Rattle.std.specs.Ordering.{nat_cmp, eq_by_cmp}
+use Rattle.std.specs.Ordering.{nat_cmp}
 use Rattle.std.specs.Cmp.{nat_cmp_total, unsigned_tied}
 use Rattle.std.specs.FinMap.{FinMap, get, insert, get-insert}
 use Rattle.std.proofs.lemmas.Bool.{eqb-true, ne_eqb, cases_eq, false≢true}
@@ -9,7 +9,7 @@ use Rattle.std.proofs.lemmas.List.{get_or-set_same, get_or-set_other, length-set
 use Rattle.mach_base.specs.Bytes.{IsWidth}
 use Rattle.mach_base.specs.Machine.{Memory, Part, byte_at}
 use Rattle.mem_map.specs.Access.{store_fault, after_store}
-use Rattle.mem_map.specs.Pages.{PagedMemory, ArePages, IsInPage, KeepsUnmarked, page_of, page_total, with_first, with_text, page_base, page_length, first_pages, IsMap, IsSpot}
+use Rattle.mem_map.specs.Pages.{PagedMemory, ArePages, KeepsUnmarked, page_of, page_total, with_first, with_text, page_base, page_length, first_pages, IsMap, IsSpot}
 use Rattle.mem_map.specs.Parts.{AreParts, IsFirstAt, segments_of}
 use Rattle.mem_map.specs.declared.memory.Spot.{Spot}
 use Rattle.mem_map.proofs.Natural.{whole_at}

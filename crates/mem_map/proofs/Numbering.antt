@@ -1,19 +1,18 @@
 -- Which part a page is in, and which page an address.
-use Rattle.std.proofs.Common.{◌≡◌, ℕ, zero, suc, ◌+◌, ◌-◌, ◌*◌, ◌/◌, ◌%◌, ◌<◌, ◌≤◌, ◌⊎◌, inl, inr, true, false, cond, ltb, leb, ◌&&◌, List, [], ◌∷◌, ◌++◌, length, get_or, take, refl, sym, ap, ◌∙◌, arith, min}
-use Rattle.std.specs.Prelude.{Option, Some, None}
+use Rattle.std.proofs.Common.{◌≡◌, ℕ, zero, suc, ◌+◌, ◌-◌, ◌*◌, ◌/◌, ◌%◌, ◌<◌, ◌≤◌, inl, inr, true, false, cond, ltb, ◌&&◌, List, [], ◌∷◌, length, get_or, refl, sym, ap, ◌∙◌, arith, min}
+use Rattle.std.specs.Prelude.{Some}
 use Rattle.std.specs.List.{AllByRecursion}
 use Rattle.std.specs.List.Sorted.{IsNonDecreasing, IsNonDecreasingBy}
-use Rattle.std.proofs.lemmas.Bool.{and_from, le-leb, lt-leb, lt-ltb, le-ltb, leb-true, leb-false, ltb-true, cases_lt, cases_eq}
+use Rattle.std.proofs.lemmas.Bool.{le-leb, lt-leb, lt-ltb, le-ltb, cases_lt}
 use Rattle.std.proofs.lemmas.List.{get_or_default}
 use Rattle.std.proofs.lemmas.List.Sums.{sum_by-cons}
 use Rattle.mach_base.specs.declared.memory_range.Segment.{Segment}
-use Rattle.mach_base.specs.declared.limits.TheConstants.{MOST_MEMORY}
 use Rattle.mach_base.specs.Bytes.{IsWidth}
 use Rattle.mach_base.specs.Machine.{Part, HasBounds, AreInOrder, AreSegments, memory_size, holds, segment_at}
 use Rattle.mem_map.specs.Pages.{pages_in, page_total, page_base, page_length, page_of, first_pages, IsInPage, ArePages, IsCountUpTo, IsSpot}
-use Rattle.mem_map.specs.Parts.{IsWhole, AreParts, AreBegun, IsFirstAt, NoneHolds, segments_of}
+use Rattle.mem_map.specs.Parts.{AreParts, AreBegun, IsFirstAt, NoneHolds, segments_of}
 use Rattle.mem_map.proofs.Entries.{holds-true, holds-from, first_behind, segment_at-first}
-use Rattle.mem_map.proofs.Natural.{bounds_at, whole_at, below_too, holds-beside}
+use Rattle.mem_map.proofs.Natural.{whole_at, below_too, holds-beside}
 
 -- parts in order
 
@@ -54,11 +53,15 @@ first_in ps addr i d are within low high = record {
   before = λ k p lt. past-holds (get_or ps k p).segment addr (omega (arith, below-in_order 0 ps k i p are.segments.order lt within, ap (λ x. x.segment.base) (get_or_default ps i p d within)));
 }
 
+-- a part that holds an address is the first
+pub first_held : (ps : List Part) (addr i : ℕ) (p : Part) → AreParts ps → i < length ps → p ≡ get_or ps i p → holds p.segment addr ≡ true → IsFirstAt ps addr i
+first_held ps addr i p are within e held =
+    let bounds = holds-true (get_or ps i p).segment addr (ap (λ x. holds x.segment addr) (sym e) ∙ held) in
+    first_in ps addr i p are within bounds.0 bounds.1
+
 -- the last part that begins at an address or below it, if any, is the only one that may hold it
 pub first_begun : (ps : List Part) (addr count : ℕ) (p : Part) → AreParts ps → AreBegun ps addr count → 0 < count → p ≡ get_or ps (count - 1) p → holds p.segment addr ≡ true → IsFirstAt ps addr (count - 1)
-first_begun ps addr count p are begun some e held =
-    let bounds = holds-true (get_or ps (count - 1) p).segment addr (ap (λ x. holds x.segment addr) (sym e) ∙ held) in
-    first_in ps addr (count - 1) p are (omega (arith, begun.within)) bounds.0 bounds.1
+first_begun ps addr count p are begun some e held = first_held ps addr (count - 1) p are (omega (arith, begun.within)) e held
 
 pub none_begun : (ps : List Part) (addr count : ℕ) (p : Part) → AreParts ps → AreBegun ps addr count → 0 < count → p ≡ get_or ps (count - 1) p → holds p.segment addr ≡ false → NoneHolds ps addr
 none_begun ps addr count p are begun some e free k q within =

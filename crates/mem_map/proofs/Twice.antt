@@ -9,9 +9,9 @@ use Rattle.mach_base.specs.declared.memory_range.Segment.{Segment}
 use Rattle.mach_base.specs.Machine.{Memory, byte_at, segment_at}
 use Rattle.mem_map.specs.declared.rights.Access.{Access}
 use Rattle.mem_map.specs.declared.rights.Access.TheVariants.{Fetch, Load, Store}
-use Rattle.mach_base.specs.Bytes.{number_in, byte_of}
+use Rattle.mach_base.specs.Bytes.{byte_of}
 use Rattle.mem_map.specs.Access.{allows, allowed_in, has_right, after_store}
-use Rattle.mem_map.specs.Laws.{byte_after, AreApart, TextIsApart, StoresCommute, LastStoreRemains, StoreOfSameBytes, StoreKeepsNumbers}
+use Rattle.mem_map.specs.Laws.{AreApart, TextIsApart, StoresCommute, LastStoreRemains, StoreOfSameBytes, StoreKeepsNumbers}
 use Rattle.mem_map.proofs.Stores.{passes, all_bytes-at, byte_at-after_store, segments-after_store, within_or_kept, number_in-ext}
 
 -- memories with the same segments and the same bytes

@@ -5,7 +5,7 @@ use Rattle.std.specs.Coded.{Coded, code_by, coded×, coded_list, coded_bool}
 use Rattle.std.specs.Ordering.{nat_cmp}
 use Rattle.std.specs.FinMap.{FinMap, insert}
 use Rattle.mach_base.specs.declared.memory_range.Segment.{Segment}
-use Rattle.mach_base.specs.Bytes.{IsWidth, is_mapped}
+use Rattle.mach_base.specs.Bytes.{IsWidth}
 use Rattle.mach_base.specs.Codes.{memory_code}
 use Rattle.mach_base.specs.Machine.{Memory, Part, byte_at, holds, segment_at}
 use Rattle.mem_map.specs.Parts.{AreParts, segments_of}

@@ -1,4 +1,4 @@
-ghost use Rattle.std.specs.Prelude.{◌≡◌, ℕ, ◌<◌, ◌^◌, true, ◌≤◌, ◌↔◌, ◌≢◌, Some, None, false, IfOk, OnOk, OnErr, IsTrue, IsNone, MatchOption, MatchResult, length, is_ok, nat_le, replicate, slice_index, slice_set, ◌/◌, ◌+◌};
+ghost use Rattle.std.specs.Prelude.{◌≡◌, ℕ, ◌<◌, ◌^◌, true, ◌≤◌, ◌↔◌, ◌≢◌, Some, None, false, IfOk, OnOk, OnErr, IsTrue, IsNone, MatchOption, MatchResult, length, is_ok, nat_le, replicate, slice_index, slice_set, ◌/◌, ◌+◌, ◌%◌, ◌==◌};
 ghost use Rattle.std.specs.Bool.{OnTrue, OnFalse};
 ghost use Rattle.std.specs.Result.{result_err};
 ghost use Rattle.std.specs.FinMap as map;
@@ -38,7 +38,8 @@ impl Model for Map {
     ghost invariant = { λ m. IsMap m.pieces.items m.firsts.items m.changed.items };
 }
 
-/// The place of the piece that holds the address. Text is most often in the first one; the others are searched by halves.
+/// The place of the piece that holds the address. Text is most often in the first one, and data in the second; the others
+/// are searched by halves.
 fn piece_at(pieces: &[Piece], addr: u64) -> Option<usize>
     requires { AreParts pieces.now }
     ensures { MatchOption result (NoneHolds pieces.now addr) (IsFirstAt pieces.now addr) }
@@ -50,6 +51,16 @@ fn piece_at(pieces: &[Piece], addr: u64) -> Option<usize>
 }
 
 fn later_piece_at(pieces: &[Piece], addr: u64) -> Option<usize>
+    requires { AreParts pieces.now }
+    ensures { MatchOption result (NoneHolds pieces.now addr) (IsFirstAt pieces.now addr) }
+{
+    if pieces.len() > 1 && pieces[1].holds(addr) {
+        return Some(1);
+    }
+    found_piece_at(pieces, addr)
+}
+
+fn found_piece_at(pieces: &[Piece], addr: u64) -> Option<usize>
     requires { AreParts pieces.now }
     ensures { MatchOption result (NoneHolds pieces.now addr) (IsFirstAt pieces.now addr) }
 {
@@ -76,13 +87,26 @@ fn count_begun(pieces: &[Piece], addr: u64) -> usize
     )
 }
 
+/// Whether the address is a multiple of the width; one of a known width needs no division.
+fn is_aligned(addr: u64, width: u8) -> bool
+    requires { IsWidth width }
+    ensures { result ≡ (addr % width == 0) }
+{
+    match width {
+        8 => addr % 8 == 0,
+        4 => addr % 4 == 0,
+        2 => addr % 2 == 0,
+        _ => true,
+    }
+}
+
 /// The place of the piece that the access falls into, or the cause of its fault.
 fn piece_or_cause(pieces: &[Piece], access: Access, addr: u64, width: u8) -> Result<usize, Cause>
     requires parts { AreParts pieces.now }
     requires width { IsWidth width }
     ensures { MatchResult result (IsAllowedIn pieces.now access addr width) (λ cause. access_fault (memory_of pieces.now) access addr width ≡ fault_at cause addr) }
 {
-    if addr % u64::from(width) != 0 {
+    if !is_aligned(addr, width) {
         return Err(Cause::Misaligned);
     }
     match piece_at(pieces, addr) {

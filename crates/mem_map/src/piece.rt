@@ -153,10 +153,11 @@ impl Piece {
         requires { place + width ≤ length self.old.bytes }
         ensures { self.new ≡ record self.old { bytes = with_number self.old.bytes place width value } }
     {
-        let mut rest = value;
-        for k in 0..width {
-            self.bytes[place + usize::from(k)] = (rest % 256) as u8;
-            rest /= 256;
+        let bytes = self.bytes.as_mut_slice();
+        match width {
+            8 => put_bytes(bytes, place, 8, value),
+            4 => put_bytes(bytes, place, 4, value),
+            _ => put_bytes(bytes, place, width, value),
         }
     }
 
@@ -168,5 +169,18 @@ impl Piece {
         for (k, byte) in text.iter().enumerate() {
             self.bytes[place + k] = *byte;
         }
+    }
+}
+
+/// Writes the lowest bytes of the number from this place on. Where it is known how many they are, the compiler makes one
+/// store of the loop.
+fn put_bytes(bytes: &mut [u8], place: usize, width: u8, value: u64)
+    requires { place + width ≤ length bytes.old }
+    ensures { bytes.new ≡ with_number bytes.old place width value }
+{
+    let mut rest = value;
+    for k in 0..width {
+        bytes[place + usize::from(k)] = (rest % 256) as u8;
+        rest /= 256;
     }
 }

@@ -1,4 +1,4 @@
-use Rattle.std.proofs.Common.{◌≡◌, ◌≤◌, ap, get_or, arith}
+use Rattle.std.proofs.Common.{arith}
 use Rattle.mem_map.specs.Pages.{first_pages, IsCountUpTo}
 use Rattle.mem_map.specs.Parts.{segments_of}
 use Rattle.mem_map.proofs.Numbering.{rising-first_pages, length-first_pages, few-pages, some-begun, spot-within, spot-first, is-spot}

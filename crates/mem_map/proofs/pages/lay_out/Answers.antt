@@ -2,7 +2,7 @@ use Rattle.std.proofs.Common.{◌≡◌, ◌+◌, ◌++◌, ◌∷◌, [], ap, s
 use Rattle.mach_base.specs.declared.memory_range.Kind.TheVariants.{Text}
 use Rattle.mach_base.specs.declared.memory_range.Segment.{Segment}
 use Rattle.mem_map.specs.Pages.{first_pages, page_total}
-use Rattle.mem_map.proofs.Built.{first_pages-more, page_total-more, page_total-take, len-small}
+use Rattle.mem_map.proofs.Built.{first_pages-more, page_total-more, page_total-take}
 use Rattle.mem_map.proofs.Numbering.{few-pages}
 use Rattle.mem_map.proofs.pages.lay_out.Goals as goal
 

@@ -1,6 +1,6 @@
-use Rattle.std.proofs.Common.{◌≡◌, ◌<◌, ap, refl, arith, set, sym, ◌∙◌, get_or, length}
+use Rattle.std.proofs.Common.{◌≡◌, ◌<◌, ap, refl, arith, set, get_or, length}
 use Rattle.mach_base.specs.Machine.{memory_of}
-use Rattle.mem_map.specs.Parts.{AreParts, segments_of}
+use Rattle.mem_map.specs.Parts.{segments_of}
 use Rattle.mem_map.specs.Pages.{IsSpot, PagedMemory, page_base, page_length}
 use Rattle.mem_map.proofs.Writes.{are-each, segments_of-each, memory_of-with_text}
 use Rattle.mem_map.proofs.Numbering.{are-pages}
