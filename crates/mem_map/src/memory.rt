@@ -40,6 +40,7 @@ impl Model for Map {
 
 /// The place of the piece that holds the address. Text is most often in the first one, and data in the second; the others
 /// are searched by halves.
+#[inline]
 fn piece_at(pieces: &[Piece], addr: u64) -> Option<usize>
     requires { AreParts pieces.now }
     ensures { MatchOption result (NoneHolds pieces.now addr) (IsFirstAt pieces.now addr) }
@@ -50,6 +51,7 @@ fn piece_at(pieces: &[Piece], addr: u64) -> Option<usize>
     }
 }
 
+#[inline]
 fn later_piece_at(pieces: &[Piece], addr: u64) -> Option<usize>
     requires { AreParts pieces.now }
     ensures { MatchOption result (NoneHolds pieces.now addr) (IsFirstAt pieces.now addr) }
@@ -60,6 +62,7 @@ fn later_piece_at(pieces: &[Piece], addr: u64) -> Option<usize>
     found_piece_at(pieces, addr)
 }
 
+#[inline(never)]
 fn found_piece_at(pieces: &[Piece], addr: u64) -> Option<usize>
     requires { AreParts pieces.now }
     ensures { MatchOption result (NoneHolds pieces.now addr) (IsFirstAt pieces.now addr) }
@@ -88,6 +91,7 @@ fn count_begun(pieces: &[Piece], addr: u64) -> usize
 }
 
 /// Whether the address is a multiple of the width; one of a known width needs no division.
+#[inline]
 fn is_aligned(addr: u64, width: u8) -> bool
     requires { IsWidth width }
     ensures { result ≡ (addr % width == 0) }
@@ -101,6 +105,7 @@ fn is_aligned(addr: u64, width: u8) -> bool
 }
 
 /// The place of the piece that the access falls into, or the cause of its fault.
+#[inline]
 fn piece_or_cause(pieces: &[Piece], access: Access, addr: u64, width: u8) -> Result<usize, Cause>
     requires parts { AreParts pieces.now }
     requires width { IsWidth width }
@@ -122,6 +127,7 @@ fn piece_or_cause(pieces: &[Piece], access: Access, addr: u64, width: u8) -> Res
 }
 
 /// The place of the piece that the access falls into, or its fault.
+#[inline]
 fn allowed_piece(pieces: &[Piece], access: Access, addr: u64, width: u8) -> Result<usize, Fault>
     requires parts { AreParts pieces.now }
     requires width { IsWidth width }
@@ -225,6 +231,7 @@ impl Map {
     }
 
     /// The number of `width` bytes from the address on, in data or rodata, zero-extended. The width is 1, 2, 4 or 8.
+    #[inline]
     pub fn load(&self, addr: u64, width: u8) -> Result<u64, Fault>
         requires { IsWidth width }
         ensures value { result ≡ load_result self.now.memory addr width }
@@ -238,6 +245,7 @@ impl Map {
 
     /// Writes the lowest `width` bytes of the number from the address on, in data. The width is 1, 2, 4 or 8. A fault
     /// changes nothing.
+    #[inline]
     pub fn store(&mut self, addr: u64, width: u8, value: u64) -> Result<(), Fault>
         requires { IsWidth width }
         ensures fault { result_err result ≡ store_fault self.old.memory addr width }
