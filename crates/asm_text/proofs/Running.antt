@@ -10,7 +10,7 @@ use Rattle.mach_base.specs.declared.memory_range.Kind.{Kind}
 use Rattle.mach_base.specs.declared.memory_range.Kind.TheVariants as kinds
 use Rattle.mach_base.specs.declared.memory_range.Segment.{Segment}
 use Rattle.mach_base.specs.declared.number.NumFault.{NumFault}
-use Rattle.mach_base.specs.Lines.{words_of}
+use Rattle.mach_base.specs.Lines.{words_of, is_comment}
 use Rattle.mach_base.specs.Machine.{Part}
 use Rattle.mach_base.specs.Number.{number_of}
 use Rattle.mach_base.specs.Sequence.{◌>>=◌}
@@ -20,7 +20,7 @@ use Rattle.img_text.specs.declared.directive.Directive.{Directive}
 use Rattle.img_text.specs.declared.directive.Directive.TheVariants.{Begin, Put, Pc, Sp}
 use Rattle.img_text.specs.declared.directive.Width.{Width}
 use Rattle.img_text.specs.declared.directive.Width.TheVariants.{One, Four, Eight}
-use Rattle.img_text.specs.Directives.{size_of, directive_of, each_number, has_count, is_comment, largest_of, least_of, line_of, most_of, number_up_to, up_to, with_numbers}
+use Rattle.img_text.specs.Directives.{size_of, directive_of, each_number, has_count, largest_of, least_of, line_of, most_of, number_up_to, up_to, with_numbers}
 use Rattle.img_text.specs.Reading.{has_bounds, value_bytes}
 use Rattle.img_text.specs.Grammar.{Entry, AreAllowed, last_part, parts_in, refusal_after, segment_of, segment_refusal, values_in, values_refusal}
 use Rattle.img_text.proofs.Entries.{cases_end, last_part-end, parts_in-append, parts_in-none, with_values, with_values-end}

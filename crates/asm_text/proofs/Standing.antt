@@ -5,12 +5,12 @@ use Rattle.std.specs.Prelude.{codes}
 use Rattle.std.specs.Option.{option_or}
 use Rattle.std.specs.Str.{bytes_eq}
 use Rattle.mach_base.specs.declared.memory_range.Kind.TheVariants as kinds
-use Rattle.mach_base.specs.Lines.{words_of}
+use Rattle.mach_base.specs.Lines.{words_of, is_comment}
 use Rattle.img_text.specs.declared.fault.Why.{Why}
 use Rattle.img_text.specs.declared.fault.Why.TheVariants.{Word}
 use Rattle.img_text.specs.declared.directive.Directive.TheVariants.{Begin, Put, Pc, Sp}
 use Rattle.img_text.specs.declared.directive.Width.TheVariants.{One, Four, Eight}
-use Rattle.img_text.specs.Directives.{is_comment, directive_of, with_numbers, line_of}
+use Rattle.img_text.specs.Directives.{directive_of, with_numbers, line_of}
 use Rattle.img_text.specs.Grammar.{Entry}
 use Rattle.img_text.proofs.Spelled.{words_of-line, each_number-dec_text}
 use Rattle.asm_text.specs.declared.labels.Given.{Given}

@@ -6,7 +6,7 @@ use Rattle.mach_base.specs.declared.event.What.{What}
 use Rattle.mach_base.specs.declared.event.What.TheVariants.{Segments, Memory, SourceBytes}
 use Rattle.mach_base.specs.declared.limits.TheConstants.{MOST_SEGMENTS, MOST_MEMORY, SOURCE_BYTES}
 use Rattle.mach_base.specs.Lines.{lines_of, words_of}
-use Rattle.mach_base.specs.Machine.{memory_size}
+use Rattle.mach_base.specs.Machine.{Part, memory_size}
 use Rattle.mach_base.specs.Sequence.{◌>>=◌}
 use Rattle.mem_map.specs.Parts.{segments_of}
 use Rattle.img_text.specs.declared.fault.Why.{Why}
@@ -15,12 +15,12 @@ use Rattle.img_text.specs.declared.fault.ImageFault.{ImageFault}
 use Rattle.img_text.specs.declared.fault.ImageFault.TheVariants as image_faults
 use Rattle.img_text.specs.Image.{ImageRecord}
 use Rattle.img_text.specs.Reading.{Draft, at_line, read_line, read_lines, has_text, whole_image, image_of_lines}
-use Rattle.img_text.specs.Grammar.{Entry, AreLines as AreImageLines, IsBad as IsImageBad, IsImageOf, HaveManySegments as ImageHasManySegments, HaveMuchMemory as ImageHasMuchMemory}
+use Rattle.img_text.specs.Grammar.{Entry, parts_in, AreLines as AreImageLines, IsBad as IsImageBad, IsImageOf, AreTooMany, AreTooLarge, HaveManySegments as ImageHasManySegments, HaveMuchMemory as ImageHasMuchMemory}
 use Rattle.img_text.proofs.Grammar.{names_the_first_bad_line as image_names, is_what_the_lines_mean as image_means, counts_its_memory as image_counts}
 use Rattle.asm_text.specs.declared.fault.SourceFault.{SourceFault}
 use Rattle.asm_text.specs.declared.fault.SourceFault.TheVariants.{Bad, TooLarge}
 use Rattle.asm_text.specs.Reading.{as_source, is_header, lines_for, lines_text, source_of, source_of_lines}
-use Rattle.asm_text.specs.Grammar.{AreLines, HasNoHeader, no_line, another, IsBad, NamesTheFirstBadLine, IsWhatTheLinesMean, HaveManySegments, HaveMuchMemory, CountsItsMemory}
+use Rattle.asm_text.specs.Grammar.{AreLines, HasNoHeader, no_line, another, IsBad, NamesTheFirstBadLine, IsWhatTheLinesMean, CountsItsMemory}
 use Rattle.asm_text.proofs.Clear.{AreClear, lines_of-clear, lines_of-source}
 use Rattle.asm_text.proofs.Grammar.{whole_image_lines, bad_to_image, bad_from_image, lines_to_image, lines_from_image}
 
@@ -219,12 +219,6 @@ bytes_there text size is =
       | inr short ↦ absurd (no_more_bytes (lines_of text) size (sym (source_short text (ltb-false SOURCE_BYTES (length text) short)) ∙ is))
     ]
 
-many_from : (first : List ℕ) (ls : List (List ℕ)) (size : ℕ) → is_header (words_of first) ≡ true → ImageHasManySegments (whole_image_lines ls) size → HaveManySegments (first ∷ ls) size
-many_from first ls size header m = record { entries = m.entries; lines_are = lines_from_image first ls m.entries header m.lines_are; text = m.text; count = m.count; many = m.many }
-
-much_from : (first : List ℕ) (ls : List (List ℕ)) (size : ℕ) → is_header (words_of first) ≡ true → ImageHasMuchMemory (whole_image_lines ls) size → HaveMuchMemory (first ∷ ls) size
-much_from first ls size header m = record { entries = m.entries; lines_are = lines_from_image first ls m.entries header m.lines_are; text = m.text; few = m.few; count = m.count; large = m.large }
-
 -- the lines of the image that stand for lines that are right
 lines_in : (lines : List (List ℕ)) (es : List Entry) (a : AreLines lines es) → AreImageLines (whole_image_lines a.rest) es
 lines_in lines es a = lines_to_image a.header a.rest es (subst (λ (xs : List (List ℕ)). AreLines xs es) a.split a)
@@ -232,45 +226,38 @@ lines_in lines es a = lines_to_image a.header a.rest es (subst (λ (xs : List (L
 is_there : (lines : List (List ℕ)) (es : List Entry) (a : AreLines lines es) → source_of_lines lines ≡ as_source (image_of_lines (whole_image_lines a.rest))
 is_there lines es a = ap source_of_lines a.split ∙ with_header a.header a.rest a.is_header
 
--- what images say of a count over its limit
-abbrev ImageCounts : What → (List (List ℕ) → ℕ → Type 0) → Type 0
-ImageCounts what ImageHas =
-    (ls : List (List ℕ)) → AreClear ls → (size : ℕ) → (image_of_lines (whole_image_lines ls) ≡ Err (image_faults.TooLarge what size)) ↔ ImageHas (whole_image_lines ls) size
+-- lines that are right, whose segments and size are so
+abbrev Have : (List Part → ℕ → Type 0) → List (List ℕ) → ℕ → Type 0
+Have Are lines size = (es : List Entry) × AreLines lines es × Are (parts_in es) size
 
-count_there : (what : What) (Has ImageHas : List (List ℕ) → ℕ → Type 0) → (SourceBytes ≡ what → ⊥) → ImageCounts what ImageHas
-    → ((first : List ℕ) (ls : List (List ℕ)) (size : ℕ) → is_header (words_of first) ≡ true → ImageHas (whole_image_lines ls) size → Has (first ∷ ls) size)
-    → (text : List ℕ) (size : ℕ) → source_of text ≡ Err (TooLarge what size) → (length text ≤ SOURCE_BYTES) × Has (lines_of text) size
-count_there what Has ImageHas other law from text size is =
+-- what images say of a count over its limit
+abbrev ImageCounts : What → (List Part → ℕ → Type 0) → Type 0
+ImageCounts what Are =
+    (ls : List (List ℕ)) → AreClear ls → (size : ℕ) →
+    (image_of_lines (whole_image_lines ls) ≡ Err (image_faults.TooLarge what size)) ↔ ((es : List Entry) × AreImageLines (whole_image_lines ls) es × Are (parts_in es) size)
+
+count_there : (what : What) (Are : List Part → ℕ → Type 0) → (SourceBytes ≡ what → ⊥) → ImageCounts what Are
+    → (text : List ℕ) (size : ℕ) → source_of text ≡ Err (TooLarge what size) → (length text ≤ SOURCE_BYTES) × Have Are (lines_of text) size
+count_there what Are other law text size is =
     elim (cases_Bool (nat_lt SOURCE_BYTES (length text))) [
       | inl long ↦ absurd (other (large_same SourceBytes what (length text) size (sym (source_long text (ltb-true SOURCE_BYTES (length text) long)) ∙ is)).0)
       | inr short ↦
           let few = ltb-false SOURCE_BYTES (length text) short in
           let i = inside_large (lines_of text) what size (sym (source_short text few) ∙ is) in
-          let has = (law i.others (rest_is_clear (lines_of text) _ (lines_of-clear text) i) size).0 i.is in
-          (few, subst (λ (xs : List (List ℕ)). Has xs size) (sym i.split) (from i.first i.others size i.header has))
+          let h = (law i.others (rest_is_clear (lines_of text) _ (lines_of-clear text) i) size).0 i.is in
+          (few, subst (λ (xs : List (List ℕ)). Have Are xs size) (sym i.split) (h.0, lines_from_image i.first i.others h.0 i.header h.1, h.2))
     ]
 
-count_back : (what : What) (ImageHas : List (List ℕ) → ℕ → Type 0) → ImageCounts what ImageHas → (text : List ℕ) (size : ℕ) (es : List Entry) → length text ≤ SOURCE_BYTES
-    → (a : AreLines (lines_of text) es) → ImageHas (whole_image_lines a.rest) size → source_of text ≡ Err (TooLarge what size)
-count_back what ImageHas law text size es few a has =
-    let clear : AreClear a.rest = (subst AreClear a.split (lines_of-clear text)).1 in
-    source_short text few ∙ is_there (lines_of text) es a ∙ ap as_source ((law a.rest clear size).1 has)
-
-segments_back : (text : List ℕ) (size : ℕ) → (length text ≤ SOURCE_BYTES) × HaveManySegments (lines_of text) size → source_of text ≡ Err (TooLarge Segments size)
-segments_back text size both =
+count_back : (what : What) (Are : List Part → ℕ → Type 0) → ImageCounts what Are → (text : List ℕ) (size : ℕ) → (length text ≤ SOURCE_BYTES) × Have Are (lines_of text) size
+    → source_of text ≡ Err (TooLarge what size)
+count_back what Are law text size both =
     let h = both.1 in
-    let m : ImageHasManySegments (whole_image_lines h.lines_are.rest) size = record { entries = h.entries; lines_are = lines_in (lines_of text) h.entries h.lines_are; text = h.text; count = h.count; many = h.many } in
-    count_back Segments ImageHasManySegments segments_law text size h.entries both.0 h.lines_are m
-
-memory_back : (text : List ℕ) (size : ℕ) → (length text ≤ SOURCE_BYTES) × HaveMuchMemory (lines_of text) size → source_of text ≡ Err (TooLarge Memory size)
-memory_back text size both =
-    let h = both.1 in
-    let m : ImageHasMuchMemory (whole_image_lines h.lines_are.rest) size = record { entries = h.entries; lines_are = lines_in (lines_of text) h.entries h.lines_are; text = h.text; few = h.few; count = h.count; large = h.large } in
-    count_back Memory ImageHasMuchMemory memory_law text size h.entries both.0 h.lines_are m
+    let clear : AreClear h.1.rest = (subst AreClear h.1.split (lines_of-clear text)).1 in
+    source_short text both.0 ∙ is_there (lines_of text) h.0 h.1 ∙ ap as_source ((law h.1.rest clear size).1 (h.0, lines_in (lines_of text) h.0 h.1, h.2))
 
 pub counts_its_memory : CountsItsMemory
 counts_its_memory text size = (
   (λ is. bytes_there text size is, λ both. source_long text both.1 ∙ ap (λ (n : ℕ). Err (TooLarge SourceBytes n)) (sym both.0)),
-  (λ is. count_there Segments HaveManySegments ImageHasManySegments (λ (e : SourceBytes ≡ Segments). absurd (cc)) segments_law many_from text size is, λ both. segments_back text size both),
-  (λ is. count_there Memory HaveMuchMemory ImageHasMuchMemory (λ (e : SourceBytes ≡ Memory). absurd (cc)) memory_law much_from text size is, λ both. memory_back text size both),
+  (λ is. count_there Segments AreTooMany (λ (e : SourceBytes ≡ Segments). absurd (cc)) segments_law text size is, λ both. count_back Segments AreTooMany segments_law text size both),
+  (λ is. count_there Memory AreTooLarge (λ (e : SourceBytes ≡ Memory). absurd (cc)) memory_law text size is, λ both. count_back Memory AreTooLarge memory_law text size both),
 )

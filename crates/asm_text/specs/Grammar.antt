@@ -3,9 +3,9 @@
 use Rattle.std.specs.Prelude.{◌≡◌, ℕ, ◌+◌, ◌^◌, ◌<◌, ◌≤◌, ◌≢◌, ◌==◌, ◌⊎◌, ◌↔◌, true, false, List, [], ◌∷◌, ◌++◌, length, Option, Some, None, Ok, Err}
 use Rattle.std.specs.List.{AllByRecursion, cons_option}
 use Rattle.mach_base.specs.declared.event.What.TheVariants.{Segments, Memory, SourceBytes}
-use Rattle.mach_base.specs.declared.limits.TheConstants.{MOST_SEGMENTS, MOST_MEMORY, SOURCE_BYTES}
+use Rattle.mach_base.specs.declared.limits.TheConstants.{SOURCE_BYTES}
 use Rattle.mach_base.specs.Lines.{lines_of, words_of}
-use Rattle.mach_base.specs.Machine.{Part, memory_size}
+use Rattle.mach_base.specs.Machine.{Part}
 use Rattle.mem_map.specs.Parts.{segments_of}
 use Rattle.rv_decode.specs.Fields.{decoded}
 use Rattle.rv_asm.specs.Spelling.{insn_text}
@@ -15,7 +15,7 @@ use Rattle.img_text.specs.declared.directive.Directive.TheVariants.{Put}
 use Rattle.img_text.specs.Directives.{line_of}
 use Rattle.img_text.specs.Reading.{has_text}
 use Rattle.img_text.specs.Image.{ImageRecord}
-use Rattle.img_text.specs.Grammar.{Entry, last_part, parts_in, refusal_after, AreAllowed, IsImageOf}
+use Rattle.img_text.specs.Grammar.{Entry, last_part, parts_in, refusal_after, AreAllowed, IsImageOf, AreTooMany, AreTooLarge}
 use Rattle.asm_text.specs.declared.fault.SourceFault.TheVariants.{Bad, TooLarge}
 use Rattle.asm_text.specs.declared.labels.Given.{Given}
 use Rattle.asm_text.specs.declared.kind.LineKind.TheVariants.{Label, Instruction}
@@ -122,22 +122,13 @@ NamesTheFirstBadLine =
 abbrev pub IsWhatTheLinesMean : Type 0
 IsWhatTheLinesMean = (text : List ℕ) (image : ImageRecord) → source_of text ≡ Ok image → (es : List Entry) × AreLines (lines_of text) es × IsImageOf es image
 
--- lines that are right and have text, and more segments than an image may have: so many
-pub record HaveManySegments (lines : List (List ℕ)) (size : ℕ) : Type 0 where
-  pub entries : List Entry
-  pub lines_are : AreLines lines entries
-  pub text : has_text (segments_of (parts_in entries)) ≡ true
-  pub count : size ≡ length (parts_in entries)
-  pub many : MOST_SEGMENTS < size
+-- lines that are right and have text, and too many segments: so many
+abbrev pub HaveManySegments : List (List ℕ) → ℕ → Type 0
+HaveManySegments lines size = (es : List Entry) × AreLines lines es × AreTooMany (parts_in es) size
 
--- lines that are right and have text, not too many segments, and more memory than an image may have: so much
-pub record HaveMuchMemory (lines : List (List ℕ)) (size : ℕ) : Type 0 where
-  pub entries : List Entry
-  pub lines_are : AreLines lines entries
-  pub text : has_text (segments_of (parts_in entries)) ≡ true
-  pub few : length (parts_in entries) ≤ MOST_SEGMENTS
-  pub count : size ≡ memory_size (segments_of (parts_in entries))
-  pub large : MOST_MEMORY < size
+-- lines that are right and have text, not too many segments, and too much memory: so much
+abbrev pub HaveMuchMemory : List (List ℕ) → ℕ → Type 0
+HaveMuchMemory lines size = (es : List Entry) × AreLines lines es × AreTooLarge (parts_in es) size
 
 -- a text is too large exactly where it has too many bytes, else where its lines have too many segments, or else too much
 -- memory

@@ -5,6 +5,7 @@ use Rattle.std.specs.List.{list_all}
 use Rattle.std.specs.Str.{bytes_eq}
 use Rattle.std.specs.Char.{is_ascii_alphabetic, is_ascii_alphanumeric}
 use Rattle.mach_base.specs.Number.{number_of}
+use Rattle.mach_base.specs.Lines.{is_comment}
 use Rattle.asm_text.specs.declared.kind.LineKind.{LineKind}
 use Rattle.asm_text.specs.declared.kind.LineKind.TheVariants.{Skipped, Segment, Values, Start, Label, Instruction}
 
@@ -42,11 +43,6 @@ directive_kind word =
     if bytes_eq word (codes "d") then Some (Values 8) else (
     if bytes_eq word (codes "pc") then Some Start else (
     if bytes_eq word (codes "sp") then Some Start else None)))))))
-
--- whether the word begins with #
-abbrev pub is_comment : List ℕ → Bool
-is_comment [] = false
-is_comment (b ∷ bs) = b == 35
 
 -- a label where the words give a name, else an instruction
 abbrev pub label_or_instruction : Option (List ℕ) → LineKind

@@ -1,9 +1,8 @@
 -- The source format kasm: the image that a text means.
-use Rattle.std.specs.Prelude.{◌≡◌, ℕ, ◌+◌, ◌&&◌, Bool, false, List, [], ◌∷◌, ◌++◌, length, codes, Option, Some, None, Result, Ok, Err, nat_lt, if◌then◌else◌}
-use Rattle.std.specs.Str.{bytes_eq}
+use Rattle.std.specs.Prelude.{◌≡◌, ℕ, ◌+◌, Bool, false, List, [], ◌∷◌, ◌++◌, length, codes, Option, Some, None, Result, Ok, Err, nat_lt, if◌then◌else◌}
 use Rattle.mach_base.specs.declared.event.What.TheVariants as counts
 use Rattle.mach_base.specs.declared.limits.TheConstants.{SOURCE_BYTES}
-use Rattle.mach_base.specs.Lines.{lines_of, words_of}
+use Rattle.mach_base.specs.Lines.{lines_of, words_of, is_header_of}
 use Rattle.mach_base.specs.Number.{dec_text}
 use Rattle.img_text.specs.declared.fault.ImageFault.{ImageFault}
 use Rattle.img_text.specs.declared.fault.ImageFault.TheVariants as image_faults
@@ -71,10 +70,7 @@ image_lines labels number place (l ∷ ls) = image_line labels number place l �
 
 -- whether the words are those of a source's first line
 abbrev pub is_header : List (List ℕ) → Bool
-is_header [] = false
-is_header (name ∷ []) = false
-is_header (name ∷ version ∷ []) = bytes_eq name (codes "kasm") && bytes_eq version (codes "1")
-is_header (name ∷ version ∷ more ∷ rest) = false
+is_header words = is_header_of (codes "kasm") words
 
 -- the first line of an image
 abbrev pub image_header : List ℕ

@@ -1,13 +1,12 @@
 //! Reading of a source.
 
-ghost use Rattle.std.specs.Prelude.{◌≡◌};
-ghost use Rattle.mach_base.specs.Lines.{words_of, lines_of};
-ghost use Rattle.asm_text.specs.Reading.{Gives, is_header, source_of, source_of_lines};
+ghost use Rattle.mach_base.specs.Lines.{lines_of};
+ghost use Rattle.asm_text.specs.Reading.{Gives, source_of, source_of_lines};
 
 use crate::fault::{SourceFault, source_fault};
 use crate::lines::image_text;
 use img_text::{Image, read_image};
-use mach_base::{SOURCE_BYTES, What, next_line, next_word};
+use mach_base::{SOURCE_BYTES, What, is_header_of, next_line};
 use std::alloc::Global;
 
 /// Reads a source, and gives the image that it means. `TooLarge` of SourceBytes comes for a text of more than 67,108,864
@@ -33,7 +32,7 @@ fn read_lines(alloc: Global, text: &[u8]) -> Result<Image, SourceFault>
     let Some((first, rest)) = next_line(text) else {
         return Err(SourceFault::Bad { line: 1 });
     };
-    if !is_header(first) {
+    if !is_header_of(first, b"kasm") {
         return Err(SourceFault::Bad { line: 1 });
     }
     let image = image_text(alloc, rest)?;
@@ -41,20 +40,4 @@ fn read_lines(alloc: Global, text: &[u8]) -> Result<Image, SourceFault>
         Ok(image) => Ok(image),
         Err(fault) => Err(source_fault(fault)),
     }
-}
-
-/// Whether the line is the first of a source.
-fn is_header(line: &[u8]) -> bool
-    ensures { result ≡ is_header (words_of line.now) }
-{
-    let Some((name, rest)) = next_word(line) else {
-        return false;
-    };
-    let Some((version, rest)) = next_word(rest) else {
-        return false;
-    };
-    if next_word(rest).is_some() {
-        return false;
-    }
-    name == b"kasm".as_slice() && version == b"1".as_slice()
 }

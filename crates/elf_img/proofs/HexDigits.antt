@@ -12,7 +12,8 @@ use Rattle.std.specs.Result.{result_ok}
 use Rattle.mach_base.specs.declared.number.NumFault.{NumFault}
 use Rattle.mach_base.specs.Number.{has_prefix, first_bad, number_of, hex_text}
 use Rattle.mach_base.proofs.Cuts.{and_no}
-use Rattle.sym_map.specs.Reading.{is_comment, address_of}
+use Rattle.mach_base.specs.Lines.{is_comment}
+use Rattle.sym_map.specs.Reading.{address_of}
 use Rattle.sym_map.proofs.Digits.{length-hex_text}
 use Rattle.img_text.proofs.Spelled.{first_bad-digits}
 

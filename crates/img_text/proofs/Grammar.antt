@@ -123,12 +123,12 @@ answer_of_lines lines es a =
       | inl some ↦ elim (cases_Bool (nat_lt MOST_SEGMENTS (length ps))) [
         | inl many ↦
             let over = ltb-true MOST_SEGMENTS (length ps) many in
-            has_many (length ps) (g.is ∙ whole-text (length lines + 1) ps d.pcs d.sps some ∙ limits-segments ps i over) (record { entries = es; lines_are = a; text = some; count = refl; many = over })
+            has_many (length ps) (g.is ∙ whole-text (length lines + 1) ps d.pcs d.sps some ∙ limits-segments ps i over) (es, a, record { text = some; count = refl; many = over })
         | inr few ↦ elim (cases_Bool (nat_lt MOST_MEMORY (memory_size ss))) [
           | inl large ↦
               let within = ltb-false MOST_SEGMENTS (length ps) few in
               let over = ltb-true MOST_MEMORY (memory_size ss) large in
-              is_large (memory_size ss) (g.is ∙ whole-text (length lines + 1) ps d.pcs d.sps some ∙ limits-memory ps i within over) (record { entries = es; lines_are = a; text = some; few = within; count = refl; large = over })
+              is_large (memory_size ss) (g.is ∙ whole-text (length lines + 1) ps d.pcs d.sps some ∙ limits-memory ps i within over) (es, a, record { text = some; few = within; count = refl; large = over })
           | inr small ↦
               let within = ltb-false MOST_SEGMENTS (length ps) few in
               let fits = ltb-false MOST_MEMORY (memory_size ss) small in
@@ -250,17 +250,17 @@ memory_there lines size is (is_image i2 there cause) = absurd (cc)
 
 segments_back : (lines : List (List ℕ)) (size : ℕ) → HaveManySegments lines size → Result_of lines (Err (TooLarge Segments size))
 segments_back lines size o =
-    let g = gives lines o.entries o.lines_are in
-    let ps = parts_in o.entries in
-    let over : MOST_SEGMENTS < length ps = omega (arith, o.count, o.many) in
-    g.is ∙ whole-text (length lines + 1) ps g.draft.pcs g.draft.sps o.text ∙ limits-segments ps (built ps g.draft.pcs g.draft.sps) over ∙ ap (λ (n : ℕ). Err (TooLarge Segments n)) (sym o.count)
+    let g = gives lines o.0 o.1 in
+    let ps = parts_in o.0 in
+    let over : MOST_SEGMENTS < length ps = omega (arith, o.2.count, o.2.many) in
+    g.is ∙ whole-text (length lines + 1) ps g.draft.pcs g.draft.sps o.2.text ∙ limits-segments ps (built ps g.draft.pcs g.draft.sps) over ∙ ap (λ (n : ℕ). Err (TooLarge Segments n)) (sym o.2.count)
 
 memory_back : (lines : List (List ℕ)) (size : ℕ) → HaveMuchMemory lines size → Result_of lines (Err (TooLarge Memory size))
 memory_back lines size o =
-    let g = gives lines o.entries o.lines_are in
-    let ps = parts_in o.entries in
-    let over : MOST_MEMORY < memory_size (segments_of ps) = omega (arith, o.count, o.large) in
-    g.is ∙ whole-text (length lines + 1) ps g.draft.pcs g.draft.sps o.text ∙ limits-memory ps (built ps g.draft.pcs g.draft.sps) o.few over ∙ ap (λ (n : ℕ). Err (TooLarge Memory n)) (sym o.count)
+    let g = gives lines o.0 o.1 in
+    let ps = parts_in o.0 in
+    let over : MOST_MEMORY < memory_size (segments_of ps) = omega (arith, o.2.count, o.2.large) in
+    g.is ∙ whole-text (length lines + 1) ps g.draft.pcs g.draft.sps o.2.text ∙ limits-memory ps (built ps g.draft.pcs g.draft.sps) o.2.few over ∙ ap (λ (n : ℕ). Err (TooLarge Memory n)) (sym o.2.count)
 
 pub counts_its_memory : CountsItsMemory
 counts_its_memory text size = (

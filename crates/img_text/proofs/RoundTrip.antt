@@ -15,11 +15,11 @@ use Rattle.mach_base.specs.Machine.{Part, HasBounds, AreInOrder}
 use Rattle.img_text.specs.declared.directive.Width.TheVariants.{Eight}
 use Rattle.img_text.specs.declared.directive.Directive.{Directive}
 use Rattle.img_text.specs.declared.directive.Directive.TheVariants.{Begin, Put, Pc, Sp}
-use Rattle.mach_base.specs.Lines.{lines_of, words_of}
+use Rattle.mach_base.specs.Lines.{lines_of, words_of, is_comment}
 use Rattle.mem_map.specs.Parts.{IsWhole, segments_of}
 use Rattle.img_text.specs.Image.{ImageRecord, HasBytes, IsImage, filled}
 use Rattle.mach_base.specs.Sequence.{◌>>=◌}
-use Rattle.img_text.specs.Directives.{line_of, directive_of, has_count, least_of, most_of, largest_of, is_comment}
+use Rattle.img_text.specs.Directives.{line_of, directive_of, has_count, least_of, most_of, largest_of}
 use Rattle.img_text.specs.Reading.{Draft, start, end_of, value_bytes, applied, after_line, read_line, read_lines, has_text, whole_image, no_starts, is_header, image_of_lines, image_of}
 use Rattle.img_text.specs.Writing.{name_of, directive_text, values_of, values_text, used_values, written_values, part_text, parts_text, starts_text, image_text, StartFits}
 use Rattle.img_text.proofs.Steps.{lines_more}

@@ -14,9 +14,9 @@ use Rattle.img_text.specs.declared.directive.Width.TheVariants.{One, Four, Eight
 use Rattle.img_text.specs.declared.directive.Directive.{Directive}
 use Rattle.img_text.specs.declared.directive.Directive.TheVariants.{Begin, Put, Pc, Sp}
 use Rattle.img_text.specs.Image.{ImageRecord}
-use Rattle.mach_base.specs.Lines.{words_of}
+use Rattle.mach_base.specs.Lines.{words_of, is_comment}
 use Rattle.mach_base.specs.Sequence.{◌>>=◌}
-use Rattle.img_text.specs.Directives.{size_of, each_number, number_up_to, line_of, with_numbers, directive_of, has_count, least_of, most_of, largest_of, is_comment}
+use Rattle.img_text.specs.Directives.{size_of, each_number, number_up_to, line_of, with_numbers, directive_of, has_count, least_of, most_of, largest_of}
 use Rattle.img_text.specs.Reading.{Draft, AreSound, has_bounds, end_of, begin, put, start, value_bytes, applied, after_line, read_line, read_lines, IsRefusal, IsFault, numbered, whole_image}
 
 -- a step that went well

@@ -1,10 +1,11 @@
 -- The lines of an image file: a directive and its numbers.
-use Rattle.std.specs.Prelude.{ℕ, ◌==◌, ◌&&◌, Bool, false, List, [], ◌∷◌, length, codes, Option, Some, None, Result, Ok, Err, nat_le, if◌then◌else◌}
+use Rattle.std.specs.Prelude.{ℕ, ◌&&◌, Bool, List, [], ◌∷◌, length, codes, Option, Some, None, Result, Ok, Err, nat_le, if◌then◌else◌}
 use Rattle.std.specs.Str.{bytes_eq}
 use Rattle.mach_base.specs.declared.memory_range.Kind.TheVariants.{Text, Data, Rodata}
 use Rattle.mach_base.specs.declared.number.NumFault.{NumFault}
 use Rattle.mach_base.specs.Number.{number_of}
 use Rattle.mach_base.specs.Sequence.{◌>>=◌}
+use Rattle.mach_base.specs.Lines.{is_comment}
 use Rattle.img_text.specs.declared.fault.Why.{Why}
 use Rattle.img_text.specs.declared.fault.Why.TheVariants.{Word, Number}
 use Rattle.img_text.specs.declared.directive.Width.{Width}
@@ -77,11 +78,6 @@ each_number largest (w ∷ ws) = do
 -- whether there are as many words as the directive has numbers
 abbrev pub has_count : ℕ → ℕ → List (List ℕ) → Bool
 has_count least most words = nat_le least (length words) && nat_le (length words) most
-
--- whether the word begins with #
-abbrev pub is_comment : List ℕ → Bool
-is_comment [] = false
-is_comment (b ∷ bs) = b == 35
 
 -- the directive with the numbers that the words write
 abbrev pub with_numbers : Option Directive → List (List ℕ) → Result (Option (Directive × List ℕ)) Why

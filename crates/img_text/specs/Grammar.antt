@@ -161,22 +161,26 @@ NamesTheFirstBadLine = (text : List ℕ) (number : ℕ) (why : Why) → (image_o
 abbrev pub IsWhatTheLinesMean : Type 0
 IsWhatTheLinesMean = (text : List ℕ) (image : ImageRecord) → image_of text ≡ Ok image → (es : List Entry) × AreLines (lines_of text) es × IsImageOf es image
 
--- lines that are right and have text, and more segments than an image may have: so many
-pub record HaveManySegments (lines : List (List ℕ)) (size : ℕ) : Type 0 where
-  pub entries : List Entry
-  pub lines_are : AreLines lines entries
-  pub text : has_text (segments_of (parts_in entries)) ≡ true
-  pub count : size ≡ length (parts_in entries)
+-- segments of which one is text, and more than an image may have: so many
+pub record AreTooMany (parts : List Part) (size : ℕ) : Type 0 where
+  pub text : has_text (segments_of parts) ≡ true
+  pub count : size ≡ length parts
   pub many : MOST_SEGMENTS < size
 
--- lines that are right and have text, not too many segments, and more memory than an image may have: so much
-pub record HaveMuchMemory (lines : List (List ℕ)) (size : ℕ) : Type 0 where
-  pub entries : List Entry
-  pub lines_are : AreLines lines entries
-  pub text : has_text (segments_of (parts_in entries)) ≡ true
-  pub few : length (parts_in entries) ≤ MOST_SEGMENTS
-  pub count : size ≡ memory_size (segments_of (parts_in entries))
+-- segments of which one is text, not too many, and more memory than an image may have: so much
+pub record AreTooLarge (parts : List Part) (size : ℕ) : Type 0 where
+  pub text : has_text (segments_of parts) ≡ true
+  pub few : length parts ≤ MOST_SEGMENTS
+  pub count : size ≡ memory_size (segments_of parts)
   pub large : MOST_MEMORY < size
+
+-- lines that are right and have text, and too many segments: so many
+abbrev pub HaveManySegments : List (List ℕ) → ℕ → Type 0
+HaveManySegments lines size = (es : List Entry) × AreLines lines es × AreTooMany (parts_in es) size
+
+-- lines that are right and have text, not too many segments, and too much memory: so much
+abbrev pub HaveMuchMemory : List (List ℕ) → ℕ → Type 0
+HaveMuchMemory lines size = (es : List Entry) × AreLines lines es × AreTooLarge (parts_in es) size
 
 -- a text is too large exactly where its lines have too many segments, or else too much memory
 abbrev pub CountsItsMemory : Type 0

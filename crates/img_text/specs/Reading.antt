@@ -1,6 +1,5 @@
 -- The image format kimg: the image that a text means.
-use Rattle.std.specs.Prelude.{◌≡◌, ℕ, ◌+◌, ◌*◌, ◌%◌, ◌^◌, ◌≤◌, ◌==◌, ◌&&◌, Bool, false, List, [], ◌∷◌, ◌++◌, length, map, reverse, replicate, slice_index, slice_index_or, slice_set, codes, Option, Some, None, is_none, Result, Ok, Err, nat_lt, nat_le, if◌then◌else◌}
-use Rattle.std.specs.Str.{bytes_eq}
+use Rattle.std.specs.Prelude.{◌≡◌, ℕ, ◌+◌, ◌*◌, ◌%◌, ◌^◌, ◌≤◌, ◌==◌, ◌&&◌, Bool, List, [], ◌∷◌, ◌++◌, length, map, reverse, replicate, slice_index, slice_index_or, slice_set, codes, Option, Some, None, is_none, Result, Ok, Err, nat_lt, nat_le, if◌then◌else◌}
 use Rattle.std.specs.List.{list_any, flat_map}
 use Rattle.std.specs.Int.{bytes_low_first}
 use Rattle.mach_base.specs.declared.event.What.TheVariants.{Segments, Memory}
@@ -16,7 +15,7 @@ use Rattle.img_text.specs.declared.fault.LineFault.TheVariants as line_faults
 use Rattle.img_text.specs.declared.directive.Width.{Width}
 use Rattle.img_text.specs.declared.directive.Directive.{Directive}
 use Rattle.img_text.specs.declared.directive.Directive.TheVariants.{Begin, Put, Pc, Sp}
-use Rattle.mach_base.specs.Lines.{lines_of, words_of}
+use Rattle.mach_base.specs.Lines.{lines_of, words_of, is_header_of}
 use Rattle.mem_map.specs.Parts.{segments_of}
 use Rattle.img_text.specs.Image.{ImageRecord, filled}
 use Rattle.mach_base.specs.Sequence.{◌>>=◌}
@@ -141,10 +140,7 @@ no_starts = replicate MOST_HARTS None
 
 -- whether the words are those of the first line
 abbrev pub is_header : List (List ℕ) → Bool
-is_header [] = false
-is_header (a ∷ []) = false
-is_header (a ∷ b ∷ []) = bytes_eq a (codes "kimg") && bytes_eq b (codes "1")
-is_header (a ∷ b ∷ c ∷ more) = false
+is_header words = is_header_of (codes "kimg") words
 
 -- The image that a text means, or its first faulty line and why, or the first count over its limit.
 unfoldable pub image_of_lines : List (List ℕ) → Result ImageRecord ImageFault

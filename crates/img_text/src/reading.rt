@@ -3,11 +3,11 @@
 ghost use Rattle.std.specs.Prelude.{◌≡◌, ◌≤◌, ◌<◌, [], length, map, IfOk};
 ghost use Rattle.std.specs.List.{AllByRecursion};
 ghost use Rattle.mach_base.specs.Machine.{AreSegments};
-ghost use Rattle.mach_base.specs.Lines.{lines_of, words_of};
+ghost use Rattle.mach_base.specs.Lines.{lines_of};
 ghost use Rattle.mem_map.specs.Parts.{segments_of};
 ghost use Rattle.img_text.specs.Image.{filled};
 ghost use Rattle.img_text.specs.Directives.{least_of};
-ghost use Rattle.img_text.specs.Reading.{AreSound, IsShort, Leaves, Gives, start, applied, numbered, read_line, read_lines, whole_image, no_starts, is_header, image_of};
+ghost use Rattle.img_text.specs.Reading.{AreSound, IsShort, Leaves, Gives, start, applied, numbered, read_line, read_lines, whole_image, no_starts, image_of};
 ghost use Rattle.img_text.specs.Blocks.{parts_of, latest_first};
 ghost use Rattle.img_text.specs.Reader.{draft_of};
 
@@ -17,7 +17,7 @@ use crate::fault::{ImageFault, LineFault, Why};
 use crate::image::{HARTS, Image};
 use crate::line::line_of;
 use mach_base::{
-    MOST_HARTS, MOST_MEMORY, MOST_SEGMENTS, OutOfMemory, Segment, What, next_line, next_word,
+    MOST_HARTS, MOST_MEMORY, MOST_SEGMENTS, OutOfMemory, Segment, What, is_header_of, next_line,
 };
 use std::alloc::Global;
 
@@ -43,25 +43,10 @@ pub fn read_image(alloc: Global, text: &[u8]) -> Result<Image, ImageFault>
     let Some((first, rest)) = next_line(text) else {
         return Err(header);
     };
-    if !is_header(first) {
+    if !is_header_of(first, b"kimg") {
         return Err(header);
     }
     read_lines(alloc, rest)
-}
-
-fn is_header(line: &[u8]) -> bool
-    ensures { result ≡ is_header (words_of line.now) }
-{
-    let Some((name, rest)) = next_word(line) else {
-        return false;
-    };
-    let Some((version, rest)) = next_word(rest) else {
-        return false;
-    };
-    if next_word(rest).is_some() {
-        return false;
-    }
-    name == b"kimg".as_slice() && version == b"1".as_slice()
 }
 
 /// Reads the lines from the second on.

@@ -1,5 +1,6 @@
 -- Lines and words, as the files of text have them.
-use Rattle.std.specs.Prelude.{ℕ, ◌==◌, ◌&&◌, ◌||◌, not, Bool, false, List, [], ◌∷◌, if◌then◌else◌}
+use Rattle.std.specs.Prelude.{ℕ, ◌==◌, ◌&&◌, ◌||◌, not, Bool, false, List, [], ◌∷◌, codes, if◌then◌else◌}
+use Rattle.std.specs.Str.{bytes_eq}
 
 -- whether it is a blank or a tab
 abbrev pub is_blank : ℕ → Bool
@@ -32,3 +33,15 @@ unfoldable pub words_of : List ℕ → List (List ℕ)
 words_of [] = []
 words_of (b ∷ bs) =
     if is_blank b then words_of bs else (if begins_with_word bs then onto_first b (words_of bs) else (b ∷ []) ∷ words_of bs)
+
+-- whether the words are exactly the name of a format and its version, 1, as those of a file's first line are
+abbrev pub is_header_of : List ℕ → List (List ℕ) → Bool
+is_header_of name [] = false
+is_header_of name (a ∷ []) = false
+is_header_of name (a ∷ b ∷ []) = bytes_eq a name && bytes_eq b (codes "1")
+is_header_of name (a ∷ b ∷ c ∷ more) = false
+
+-- whether the word begins with #, so that its line is skipped
+abbrev pub is_comment : List ℕ → Bool
+is_comment [] = false
+is_comment (b ∷ bs) = b == 35

@@ -31,7 +31,7 @@ pub use limits::{
     MOST_STEPS, MOST_SYMBOLS, MOST_TICKS, MOST_VARIABLES, PLACES, PLAN_BYTES, SCRIPT_BYTES,
     SOURCE_BYTES, SYMBOL_BYTES,
 };
-pub use lines::{is_blank, next_line, next_word};
+pub use lines::{is_blank, is_header_of, next_line, next_word};
 pub use masks::{all_but, has_bit, least, least_outside, mask_with, mask_without, without_least};
 pub use memory_range::{Kind, Segment};
 pub use number::{NumFault, parse_number, push_dec, push_hex, put_dec, put_hex};

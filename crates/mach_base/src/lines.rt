@@ -2,7 +2,7 @@
 
 ghost use Rattle.std.specs.Prelude.{◌≡◌, ℕ, ◌-◌, ◌<◌, ◌≤◌, ◌≢◌, ◌∷◌, [], false, length, take, drop, slice_index, MatchOption, IfSome};
 ghost use Rattle.std.specs.Str.Lines.{strip_carriage_return};
-ghost use Rattle.mach_base.specs.Lines.{is_blank, lines_of, words_of};
+ghost use Rattle.mach_base.specs.Lines.{is_blank, is_header_of, lines_of, words_of};
 
 /// The first line of a text, without its end, and what follows it; None exactly where no line is left. A line feed
 /// ends each line but the last, which may lack it, and a carriage return directly before it belongs to the end.
@@ -56,6 +56,22 @@ pub fn next_word(line: &[u8]) -> Option<(&[u8], &[u8])>
         return None;
     }
     Some(words.split_at(word_end(words)))
+}
+
+/// Whether the words of a line are exactly the name of a format and its version, 1.
+pub fn is_header_of(line: &[u8], name: &[u8]) -> bool
+    ensures { result ≡ is_header_of name.now (words_of line.now) }
+{
+    let Some((word, rest)) = next_word(line) else {
+        return false;
+    };
+    let Some((version, rest)) = next_word(rest) else {
+        return false;
+    };
+    if next_word(rest).is_some() {
+        return false;
+    }
+    word == name && version == b"1".as_slice()
 }
 
 /// Whether the byte is a blank or a tab.

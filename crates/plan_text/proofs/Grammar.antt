@@ -7,13 +7,13 @@ use Rattle.std.proofs.lemmas.Bool.{cases_Bool, ltb-true, ltb-false, lt-ltb, le-l
 use Rattle.mach_base.specs.declared.limits.TheConstants.{MOST_TICKS}
 use Rattle.mach_base.specs.declared.event.Hart.{Hart}
 use Rattle.mach_base.specs.declared.event.What.TheVariants as counts
-use Rattle.mach_base.specs.Lines.{lines_of, words_of}
+use Rattle.mach_base.specs.Lines.{lines_of, words_of, is_comment}
 use Rattle.mach_base.specs.Number.{number_of}
 use Rattle.mach_base.specs.Sequence.{◌>>=◌}
 use Rattle.plan_text.specs.declared.fault.PlanFault.{PlanFault}
 use Rattle.plan_text.specs.declared.fault.PlanFault.TheVariants.{Bad, TooLarge}
 use Rattle.plan_text.specs.Ticks.{AreBelow, Run, ticks_of}
-use Rattle.plan_text.specs.Reading.{is_comment, is_header, hart_below, hart_of, times_of, ended, with_word, onto, run_from, line_of, read_lines, all_lines, told, within_limit, plan_of}
+use Rattle.plan_text.specs.Reading.{is_header, hart_below, hart_of, times_of, ended, with_word, onto, run_from, line_of, read_lines, all_lines, told, within_limit, plan_of}
 use Rattle.plan_text.specs.Grammar.{NameHarts, no_hart, a_hart, IsPlanLine, blank, comment, once, several, Say, nothing, one_more, IsPlan, HasNoHeader, no_line, another, IsFirstBad, GivesItsRuns, NamesTheFirstBadLine, SayTooMany, CountsItsTicks}
 use Rattle.plan_text.proofs.Last.{no_hart_of_times}
 use Rattle.plan_text.proofs.Below.{RunsBelow, ticks_below}

@@ -2,13 +2,13 @@
 -- right. The words of a line are those of `words_of`.
 use Rattle.std.specs.Prelude.{◌≡◌, ℕ, ◌+◌, ◌<◌, ◌≤◌, ◌⊎◌, true, false, List, [], ◌∷◌, ◌++◌, length, Option, Some, None, Ok, Err, ◌↔◌}
 use Rattle.std.specs.List.{cons_option}
-use Rattle.mach_base.specs.Lines.{lines_of, words_of}
+use Rattle.mach_base.specs.Lines.{lines_of, words_of, is_comment}
 use Rattle.mach_base.specs.declared.event.Hart.{Hart}
 use Rattle.mach_base.specs.declared.event.What.TheVariants as counts
 use Rattle.mach_base.specs.declared.limits.TheConstants.{MOST_TICKS}
 use Rattle.plan_text.specs.declared.fault.PlanFault.TheVariants.{Bad, TooLarge}
 use Rattle.plan_text.specs.Ticks.{Run, ticks_of}
-use Rattle.plan_text.specs.Reading.{is_comment, is_header, hart_of, times_of, told, plan_of}
+use Rattle.plan_text.specs.Reading.{is_header, hart_of, times_of, told, plan_of}
 
 -- words that name these harts, one each
 pub data NameHarts (n : ℕ) : List (List ℕ) → List Hart → Type 0 where

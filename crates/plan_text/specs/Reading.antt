@@ -1,15 +1,14 @@
 -- The plan file: the runs that its lines say.
-use Rattle.std.specs.Prelude.{◌≡◌, ℕ, ◌+◌, ◌-◌, ◌^◌, ◌==◌, ◌&&◌, Bool, false, List, [], ◌∷◌, ◌++◌, length, codes, min, Option, Some, None, Result, Ok, Err, nat_lt, nat_le, if◌then◌else◌}
+use Rattle.std.specs.Prelude.{◌≡◌, ℕ, ◌+◌, ◌-◌, ◌^◌, ◌==◌, ◌&&◌, Bool, List, [], ◌∷◌, ◌++◌, length, codes, min, Option, Some, None, Result, Ok, Err, nat_lt, nat_le, if◌then◌else◌}
 use Rattle.std.specs.Option.{option_map}
 use Rattle.std.specs.Result.{result_ok}
 use Rattle.std.specs.List.{cons_option}
-use Rattle.std.specs.Str.{bytes_eq}
 use Rattle.mach_base.specs.declared.event.Hart.{Hart}
 use Rattle.mach_base.specs.declared.event.What.TheVariants as counts
 use Rattle.mach_base.specs.declared.limits.TheConstants.{MOST_TICKS}
 use Rattle.mach_base.specs.Sequence.{◌>>=◌}
 use Rattle.mach_base.specs.Number.{number_of}
-use Rattle.mach_base.specs.Lines.{lines_of, words_of}
+use Rattle.mach_base.specs.Lines.{lines_of, words_of, is_comment, is_header_of}
 use Rattle.plan_text.specs.declared.fault.PlanFault.{PlanFault}
 use Rattle.plan_text.specs.declared.fault.PlanFault.TheVariants.{Bad, TooLarge, OutOfMemory}
 use Rattle.plan_text.specs.Ticks.{Run, ticks_of}
@@ -25,17 +24,9 @@ abbrev pub Gives : {A : Type 0} → Result A PlanFault → Result A PlanFault �
 Gives (Ok x) read = read ≡ Ok x
 Gives (Err fault) read = IsFault fault read
 
--- whether the word begins with #
-abbrev pub is_comment : List ℕ → Bool
-is_comment [] = false
-is_comment (b ∷ bs) = b == 35
-
 -- whether the words are those of the first line
 abbrev pub is_header : List (List ℕ) → Bool
-is_header [] = false
-is_header (name ∷ []) = false
-is_header (name ∷ version ∷ []) = bytes_eq name (codes "kplan") && bytes_eq version (codes "1")
-is_header (name ∷ version ∷ more ∷ rest) = false
+is_header words = is_header_of (codes "kplan") words
 
 -- the hart, if it is below the number of harts
 abbrev pub hart_below : ℕ → Option ℕ → Option Hart

@@ -2,28 +2,12 @@
 
 ghost use Rattle.std.specs.Prelude.{◌≡◌, IfOk, MatchResult, Ok};
 ghost use Rattle.mach_base.specs.Lines.{words_of};
-ghost use Rattle.plan_text.specs.Reading.{IsFault, ended, fronted, hart_of, is_header, line_of, of_harts, run_of, some_harts, times_of};
+ghost use Rattle.plan_text.specs.Reading.{IsFault, ended, fronted, hart_of, line_of, of_harts, run_of, some_harts, times_of};
 
 use crate::PlanFault;
 use crate::run::Run;
 use mach_base::{Hart, MOST_TICKS, OutOfMemory, next_word, parse_number};
 use std::alloc::Global;
-
-/// Whether the line is the first of a plan.
-pub fn is_header(line: &[u8]) -> bool
-    ensures { result ≡ is_header (words_of line.now) }
-{
-    let Some((name, rest)) = next_word(line) else {
-        return false;
-    };
-    let Some((version, rest)) = next_word(rest) else {
-        return false;
-    };
-    if next_word(rest).is_some() {
-        return false;
-    }
-    name == b"kplan".as_slice() && version == b"1".as_slice()
-}
 
 /// The run of the line of this number; None for a line that is skipped.
 #[tactic(auto, unfolding(crate::specs::Reading::line_of))]

@@ -6,9 +6,9 @@ ghost use Rattle.mach_base.specs.Lines.{lines_of};
 ghost use Rattle.plan_text.specs.Reading.{IsFault, read_lines, all_lines};
 
 use crate::PlanFault;
-use crate::line::{is_header, line_of};
+use crate::line::line_of;
 use crate::run::Run;
-use mach_base::{OutOfMemory, next_line};
+use mach_base::{OutOfMemory, is_header_of, next_line};
 use std::alloc::Global;
 
 /// The runs of all lines, however many ticks they have.
@@ -19,7 +19,7 @@ pub fn read_runs(alloc: Global, text: &[u8], harts: u8) -> Result<Vec<Run>, Plan
     let Some((first, rest)) = next_line(text) else {
         return Err(PlanFault::Bad { line: 1 });
     };
-    if !is_header(first) {
+    if !is_header_of(first, b"kplan") {
         return Err(PlanFault::Bad { line: 1 });
     }
     read_lines(alloc, rest, harts)

@@ -4,12 +4,12 @@ use Rattle.std.specs.List.{cons_option}
 use Rattle.std.proofs.lemmas.Bool.{cases_Bool, ltb-true, ltb-false, lt-ltb, le-ltb}
 use Rattle.mach_base.specs.declared.limits.TheConstants.{MOST_SYMBOLS}
 use Rattle.mach_base.specs.declared.event.What.TheVariants.{Symbols}
-use Rattle.mach_base.specs.Lines.{lines_of, words_of}
+use Rattle.mach_base.specs.Lines.{lines_of, words_of, is_comment}
 use Rattle.mach_base.specs.Machine.{Symbol}
 use Rattle.mach_base.specs.Sequence.{◌>>=◌}
 use Rattle.sym_map.specs.declared.fault.MapFault.{MapFault}
 use Rattle.sym_map.specs.declared.fault.MapFault.TheVariants.{Bad, TooLarge}
-use Rattle.sym_map.specs.Reading.{is_comment, is_undefined, symbol_of, line_of, read_lines, within_limit, symbols_of}
+use Rattle.sym_map.specs.Reading.{is_undefined, symbol_of, line_of, read_lines, within_limit, symbols_of}
 use Rattle.sym_map.specs.Grammar.{IsMapLine, Names, IsFirstBad, GivesItsSymbols, NamesTheFirstBadLine, NameTooMany, CountsItsSymbols, blank, comment, undefined, named, in_module, nothing, one_more}
 
 -- One line.

@@ -3,11 +3,11 @@
 use Rattle.std.specs.Prelude.{◌≡◌, ℕ, ◌+◌, ◌<◌, ◌≤◌, true, false, List, [], ◌∷◌, ◌++◌, length, Option, Some, None, Ok, Err, ◌↔◌}
 use Rattle.std.specs.List.{cons_option}
 use Rattle.mach_base.specs.Machine.{Symbol}
-use Rattle.mach_base.specs.Lines.{lines_of, words_of}
+use Rattle.mach_base.specs.Lines.{lines_of, words_of, is_comment}
 use Rattle.mach_base.specs.declared.limits.TheConstants.{MOST_SYMBOLS}
 use Rattle.mach_base.specs.declared.event.What.TheVariants.{Symbols}
 use Rattle.sym_map.specs.declared.fault.MapFault.TheVariants.{Bad, TooLarge}
-use Rattle.sym_map.specs.Reading.{is_comment, is_undefined, symbol_of, symbols_of}
+use Rattle.sym_map.specs.Reading.{is_undefined, symbol_of, symbols_of}
 
 -- A line by its words, with the symbol that it names, if any: no word, or a comment; the type of a symbol without an
 -- address, and its name; an address, a type and a name, and maybe the module that the symbol is in.

@@ -1,5 +1,5 @@
 -- The map file: the symbols that its lines name.
-use Rattle.std.specs.Prelude.{◌≡◌, ℕ, ◌+◌, ◌==◌, ◌&&◌, ◌||◌, Bool, false, not, List, [], ◌∷◌, length, codes, Option, Some, None, Result, Ok, Err, nat_lt, nat_le, if◌then◌else◌}
+use Rattle.std.specs.Prelude.{◌≡◌, ℕ, ◌+◌, ◌==◌, ◌&&◌, ◌||◌, Bool, not, List, [], ◌∷◌, length, codes, Option, Some, None, Result, Ok, Err, nat_lt, nat_le, if◌then◌else◌}
 use Rattle.std.specs.Option.{option_map}
 use Rattle.std.specs.Result.{result_ok}
 use Rattle.std.specs.List.{cons_option}
@@ -9,7 +9,7 @@ use Rattle.mach_base.specs.declared.limits.TheConstants.{MOST_SYMBOLS, SYMBOL_BY
 use Rattle.mach_base.specs.Machine.{Symbol}
 use Rattle.mach_base.specs.Sequence.{◌>>=◌}
 use Rattle.mach_base.specs.Number.{has_prefix, number_of}
-use Rattle.mach_base.specs.Lines.{lines_of, words_of}
+use Rattle.mach_base.specs.Lines.{lines_of, words_of, is_comment}
 use Rattle.sym_map.specs.declared.fault.MapFault.{MapFault}
 use Rattle.sym_map.specs.declared.fault.MapFault.TheVariants.{Bad, TooLarge, OutOfMemory}
 
@@ -23,11 +23,6 @@ IsFault OutOfMemory read = Unit {0}
 abbrev pub Gives : {A : Type 0} → Result A MapFault → Result A MapFault → Type 0
 Gives (Ok x) read = read ≡ Ok x
 Gives (Err fault) read = IsFault fault read
-
--- whether the word begins with #
-abbrev pub is_comment : List ℕ → Bool
-is_comment [] = false
-is_comment (b ∷ bs) = b == 35
 
 -- whether the word is the type of a symbol without an address
 abbrev pub is_undefined : List ℕ → Bool
