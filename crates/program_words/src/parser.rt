@@ -1,6 +1,6 @@
-ghost use Rattle.std.specs.Prelude.{◌≡◌, IfOk, map};
-ghost use Rattle.program_words.specs.Parser.{HasCommand, HasRules, IsParser, IsRow, option_rule, program, program_settings};
-ghost use Rattle.program_words.specs.Rows.{asm_row, command_rows, elf_row, load_row, lockstep_row, replay_row, run_options, run_row, uni_row};
+ghost use Rattle.std.specs.Prelude.{◌≡◌, [], ◌∷◌, codes, IfOk, map};
+ghost use Rattle.program_words.specs.Parser.{HasCommand, HasRules, IsParser, IsRow, operand_rule, option_rule, program, program_settings};
+ghost use Rattle.program_words.specs.Rows.{asm_row, command_rows, elf_row, file, load_row, lockstep_row, replay_row, run_options, run_row, uni_row};
 
 use crate::arguments::{with_file, with_number, with_option};
 use mach_base::{MOST_HARTS, MOST_ROUNDS, MOST_STEPS};
@@ -20,9 +20,7 @@ fn replay<'a>(alloc: Global) -> Result<clap::Command<'a>, AllocError>
     ensures { IfOk result (IsRow replay_row) }
 {
     let command = clap::Command::new(alloc, "replay");
-    let command = with_file(command, alloc, "image")?;
-    let command = with_file(command, alloc, "map")?;
-    let command = with_file(command, alloc, "script")?;
+    let command = with_session_files(command, alloc)?;
     with_file(command, alloc, "journal")
 }
 
@@ -31,9 +29,7 @@ fn run<'a>(alloc: Global) -> Result<clap::Command<'a>, AllocError>
     ensures { IfOk result (IsRow run_row) }
 {
     let command = clap::Command::new(alloc, "run");
-    let command = with_file(command, alloc, "image")?;
-    let command = with_file(command, alloc, "map")?;
-    let command = with_file(command, alloc, "script")?;
+    let command = with_session_files(command, alloc)?;
     let command = with_file(command, alloc, "journal")?;
     with_run_options(command, alloc)
 }
@@ -43,9 +39,7 @@ fn lockstep<'a>(alloc: Global) -> Result<clap::Command<'a>, AllocError>
     ensures { IfOk result (IsRow lockstep_row) }
 {
     let command = clap::Command::new(alloc, "lockstep");
-    let command = with_file(command, alloc, "image")?;
-    let command = with_file(command, alloc, "map")?;
-    let command = with_file(command, alloc, "script")?;
+    let command = with_session_files(command, alloc)?;
     let command = with_file(command, alloc, "plan")?;
     let command = with_file(command, alloc, "journal")?;
     with_run_options(command, alloc)
@@ -76,6 +70,18 @@ fn load<'a>(alloc: Global) -> Result<clap::Command<'a>, AllocError>
 {
     let command = clap::Command::new(alloc, "load");
     with_number(command, alloc, "number", 0, u32::MAX as u64)
+}
+
+/// The command with the files of a session: its image, its map and its script.
+fn with_session_files<'a>(
+    command: clap::Command<'a>,
+    alloc: Global,
+) -> Result<clap::Command<'a>, AllocError>
+    ensures { IfOk result (HasRules command.entry (map operand_rule (file (codes "image") ∷ file (codes "map") ∷ file (codes "script") ∷ []))) }
+{
+    let command = with_file(command, alloc, "image")?;
+    let command = with_file(command, alloc, "map")?;
+    with_file(command, alloc, "script")
 }
 
 /// The command with the options of a run.

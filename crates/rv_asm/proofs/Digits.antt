@@ -1,5 +1,5 @@
 -- Digits: how they are written, and that they are read again.
-use Rattle.std.proofs.Common.{◌≡◌, ℕ, zero, suc, ◌+◌, ◌*◌, ◌/◌, ◌%◌, ◌^◌, ◌<◌, ◌≤◌, ◌⊎◌, ⊎_elim, false, cond, List, [], ◌∷◌, ◌++◌, append_assoc, refl, sym, ap, ◌∙◌, arith}
+use Rattle.std.proofs.Common.{◌≡◌, ℕ, zero, suc, ◌+◌, ◌*◌, ◌/◌, ◌%◌, ◌^◌, ◌<◌, ◌≤◌, ◌⊎◌, ⊎_elim, false, cond, List, [], ◌∷◌, ◌++◌, append_assoc, refl, sym, ap, subst, ◌∙◌, arith}
 use Rattle.std.proofs.lemmas.Bool.{eq-eqb, ne_eqb, lt-ltb}
 use Rattle.std.proofs.lemmas.Fmt.{decimal_digit, decimal_step, decimal_is_IsNumeral, digits_is_IsNumeral}
 use Rattle.std.proofs.lemmas.Str.{digit_value-digit_char}
@@ -14,10 +14,10 @@ digit_char-decimal : (n : ℕ) → n < 10 → digit_char n ≡ 48 + n
 digit_char-decimal n lt = ap (λ b. cond b (48 + n) (87 + n)) (lt-ltb n 10 lt)
 
 -- a number of one decimal digit, and of more
-pub one_decimal : (n : ℕ) → n < 10 → dec_text n ≡ digit_char n ∷ []
+one_decimal : (n : ℕ) → n < 10 → dec_text n ≡ digit_char n ∷ []
 one_decimal n lt = decimal_digit n lt ∙ ap (λ d. d ∷ []) (sym (digit_char-decimal n lt))
 
-pub more_decimal : (n : ℕ) → 10 ≤ n → n < 2 ^ 64 → dec_text n ≡ dec_text (n / 10) ++ digit_char (n % 10) ∷ []
+more_decimal : (n : ℕ) → 10 ≤ n → n < 2 ^ 64 → dec_text n ≡ dec_text (n / 10) ++ digit_char (n % 10) ∷ []
 more_decimal n more small = decimal_step n more small ∙ ap (λ d. dec_text (n / 10) ++ d ∷ []) (sym (digit_char-decimal (n % 10) (omega arith)))
 
 abbrev spell : ℕ → ℕ → List ℕ → List ℕ
@@ -49,14 +49,27 @@ enough (suc j) (suc k) n acc p q = ⊎_elim
     (order n)
 
 -- a number of one hexadecimal digit, and of more
-pub one_hex : (n : ℕ) → n < 16 → digits 16 false n ≡ digit_char n ∷ []
+one_hex : (n : ℕ) → n < 16 → digits 16 false n ≡ digit_char n ∷ []
 unfolding digits
 one_hex n lt = let same : n % 16 ≡ n = omega arith in last 63 n [] lt ∙ ap (λ d. digit_char d ∷ []) same
 
-pub more_hex : (n : ℕ) → 16 ≤ n → n < 2 ^ 32 → digits 16 false n ≡ digits 16 false (n / 16) ++ digit_char (n % 16) ∷ []
+more_hex : (n : ℕ) → 16 ≤ n → n < 2 ^ 32 → digits 16 false n ≡ digits 16 false (n / 16) ++ digit_char (n % 16) ∷ []
 unfolding digits
 more_hex n more small =
     next 63 n [] more ∙ enough 62 63 (n / 16) (digit_char (n % 16) ∷ []) (omega arith) (omega arith) ∙ spell-append 64 (n / 16) (digit_char (n % 16) ∷ [])
+
+-- a number of one digit in either radix, and of more
+pub one_digit : (radix n : ℕ) → (radix ≡ 10) ⊎ (radix ≡ 16) → n < radix → digits radix false n ≡ digit_char n ∷ []
+one_digit radix n is lt = ⊎_elim
+    (λ ten. ap (λ r. digits r false n) ten ∙ one_decimal n (omega arith))
+    (λ sixteen. ap (λ r. digits r false n) sixteen ∙ one_hex n (omega arith))
+    is
+
+pub more_digits : (radix n : ℕ) → (radix ≡ 10) ⊎ (radix ≡ 16) → radix ≤ n → n < 2 ^ 32 → digits radix false n ≡ digits radix false (n / radix) ++ digit_char (n % radix) ∷ []
+more_digits radix n is more small = ⊎_elim
+    (λ ten. subst (λ r. digits r false n ≡ digits r false (n / r) ++ digit_char (n % r) ∷ []) (sym ten) (more_decimal n (omega arith) (omega arith)))
+    (λ sixteen. subst (λ r. digits r false n ≡ digits r false (n / r) ++ digit_char (n % r) ∷ []) (sym sixteen) (more_hex n (omega arith) small))
+    is
 
 -- what is written is read again
 pub value_of-decimal : (n : ℕ) → n < 2 ^ 32 → value_of 10 (dec_text n) ≡ n

@@ -1,9 +1,9 @@
 // Whether a line is the spelling of a word: the line is eaten from its head, part by part.
 
-ghost use Rattle.std.specs.Prelude.{◌≡◌, ◌↔◌, true, false, ◌<◌, ◌≤◌, [], ◌∷◌, ◌++◌, codes, MatchOption, None, Some, IsTrue};
+ghost use Rattle.std.specs.Prelude.{◌≡◌, ◌↔◌, ◌⊎◌, true, false, ◌<◌, ◌≤◌, [], ◌∷◌, ◌++◌, codes, MatchOption, None, Some, IsTrue};
 ghost use Rattle.std.specs.Char.{digit_char};
 ghost use Rattle.std.specs.Fmt.{digits, signed_decimal};
-ghost use Rattle.mach_base.specs.Number.{dec_text, hex_text};
+ghost use Rattle.mach_base.specs.Number.{hex_text};
 ghost use Rattle.rv_decode.specs.Instruction.{fields_of};
 ghost use Rattle.rv_asm.specs.Rest.{after};
 ghost use Rattle.rv_asm.specs.Spelling.{part_text, parts_text, operands_text, instruction_text, data_text, insn_text};
@@ -94,37 +94,28 @@ fn after_signed<'a>(number: i32, line: &'a [u8]) -> Option<&'a [u8]>
 {
     if number < 0 {
         let rest = after(b"-", line)?;
-        return after_decimal(number.unsigned_abs(), rest);
+        return after_digits(number.unsigned_abs(), 10, rest);
     }
-    after_decimal(number.unsigned_abs(), line)
+    after_digits(number.unsigned_abs(), 10, line)
 }
 
-fn after_decimal<'a>(number: u32, line: &'a [u8]) -> Option<&'a [u8]>
-    ensures { MatchOption result (after (dec_text number) line.now ≡ None) (λ rest. after (dec_text number) line.now ≡ Some rest.now) }
+/// The digits in the radix, 10 or 16, without leading zeros.
+fn after_digits<'a>(number: u32, radix: u32, line: &'a [u8]) -> Option<&'a [u8]>
+    requires { (radix ≡ 10) ⊎ (radix ≡ 16) }
+    ensures { MatchOption result (after (digits radix false number) line.now ≡ None) (λ rest. after (digits radix false number) line.now ≡ Some rest.now) }
 {
-    if number < 10 {
+    if number < radix {
         return after_digit(number, line);
     }
-    let rest = after_decimal(number / 10, line)?;
-    after_digit(number % 10, rest)
+    let rest = after_digits(number / radix, radix, line)?;
+    after_digit(number % radix, rest)
 }
 
 fn after_upper<'a>(number: u32, line: &'a [u8]) -> Option<&'a [u8]>
     ensures { MatchOption result (after (codes "0x" ++ digits 16 false number) line.now ≡ None) (λ rest. after (codes "0x" ++ digits 16 false number) line.now ≡ Some rest.now) }
 {
     let rest = after(b"0x", line)?;
-    after_short_hex(number, rest)
-}
-
-/// The hexadecimal digits without leading zeros.
-fn after_short_hex<'a>(number: u32, line: &'a [u8]) -> Option<&'a [u8]>
-    ensures { MatchOption result (after (digits 16 false number) line.now ≡ None) (λ rest. after (digits 16 false number) line.now ≡ Some rest.now) }
-{
-    if number < 16 {
-        return after_digit(number, line);
-    }
-    let rest = after_short_hex(number / 16, line)?;
-    after_digit(number % 16, rest)
+    after_digits(number, 16, rest)
 }
 
 /// So many hexadecimal digits.
