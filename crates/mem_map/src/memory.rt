@@ -1,12 +1,13 @@
-ghost use Rattle.std.specs.Prelude.{◌≡◌, ℕ, ◌<◌, ◌^◌, true, ◌≤◌, ◌↔◌, ◌≢◌, Some, None, false, IfOk, OnOk, OnErr, IsTrue, IsNone, MatchOption, MatchResult, length, is_ok, nat_le, replicate, slice_index, slice_set, ◌/◌, ◌+◌, ◌%◌, ◌==◌};
+ghost use Rattle.std.specs.Prelude.{◌≡◌, ℕ, ◌<◌, ◌^◌, true, ◌≤◌, ◌↔◌, ◌≢◌, Some, None, false, IfOk, OnOk, OnErr, IsTrue, IsNone, MatchOption, MatchResult, length, is_ok, nat_le, replicate, slice_index, slice_set, ◌/◌, ◌+◌, ◌-◌, ◌%◌, ◌==◌, true};
 ghost use Rattle.std.specs.Bool.{OnTrue, OnFalse};
 ghost use Rattle.std.specs.Result.{result_err};
 ghost use Rattle.std.specs.FinMap as map;
-ghost use Rattle.mach_base.specs.Machine.{AreSegments, byte_at, is_text_word, memory_of};
+ghost use Rattle.mach_base.specs.Machine.{AreSegments, byte_at, holds, is_text_word, memory_of};
 ghost use Rattle.mach_base.specs.Bytes.{IsWidth};
-ghost use Rattle.mem_map.specs.Access.{access_fault, fault_at, fetch_result, load_result, store_fault, after_store};
-ghost use Rattle.mem_map.specs.Parts.{AreBegun, AreContents, AreParts, IsAllowedIn, IsFirstAt, NoneHolds, parts_of, segments_of, zero_memory};
+ghost use Rattle.mem_map.specs.Access.{allows, access_fault, fault_at, fetch_result, load_result, store_fault, after_store};
+ghost use Rattle.mem_map.specs.Parts.{AreBegun, AreContents, AreParts, IsAllowedIn, IsFirstAt, NoneHolds, number_at, parts_of, segments_of, zero_memory};
 ghost use Rattle.mem_map.specs.Pages.{ArePages, IsPage, IsSpot, KeepsUnmarked, first_pages, marked_at, page_base, page_length, page_of, page_total, unmarked, with_text};
+ghost use Rattle.mem_map.specs.declared.rights.Access.TheVariants.{Fetch};
 
 use crate::pages::{Layout, PAGE_BYTES, Page, count_up_to, lay_out};
 use crate::piece::Piece;
@@ -139,6 +140,33 @@ fn allowed_piece(pieces: &[Piece], access: Access, addr: u64, width: u8) -> Resu
     }
 }
 
+/// Whether a whole word of the piece, which is text, is at the address.
+#[inline]
+fn has_word(piece: &Piece, addr: u64) -> bool
+    ensures { result ≡ true → (addr % 4 ≡ 0) × (allows Fetch piece.now.segment.kind ≡ true) × (holds piece.now.segment addr ≡ true) }
+{
+    addr % 4 == 0 && is_allowed(Access::Fetch, piece.kind()) && piece.holds(addr)
+}
+
+/// Whether a whole word of text is at the address, in the first piece, as it most often is.
+#[inline]
+fn is_in_first(pieces: &[Piece], addr: u64) -> bool
+    requires { AreParts pieces.now }
+    ensures { result ≡ true → IsAllowedIn pieces.now Fetch addr 4 0 }
+{
+    !pieces.is_empty() && has_word(&pieces[0], addr)
+}
+
+/// The word at an address of a piece.
+#[inline]
+fn word_of(piece: &Piece, addr: u64) -> u32
+    requires low { piece.now.segment.base ≤ addr }
+    requires high { addr + 4 ≤ piece.now.segment.base + length piece.now.bytes }
+    ensures { result ≡ number_at piece.now.bytes (addr - piece.now.segment.base) 4 }
+{
+    piece.word(piece.place(addr))
+}
+
 /// The piece that a page is in, and the place in it at which the page begins.
 #[derive(Clone, Copy, Debug)]
 struct Spot {
@@ -225,9 +253,11 @@ impl Map {
         ensures { result ≡ fetch_result self.now.memory addr }
     {
         let pieces = self.pieces.as_slice();
+        if is_in_first(pieces, addr) {
+            return Ok(word_of(&pieces[0], addr));
+        }
         let i = allowed_piece(pieces, Access::Fetch, addr, 4)?;
-        let piece = &pieces[i];
-        Ok(piece.word(piece.place(addr)))
+        Ok(word_of(&pieces[i], addr))
     }
 
     /// The number of `width` bytes from the address on, in data or rodata, zero-extended. The width is 1, 2, 4 or 8.
