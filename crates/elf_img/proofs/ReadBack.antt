@@ -12,7 +12,7 @@ use Rattle.img_text.proofs.Spelled.{lines_of-plain}
 use Rattle.sym_map.specs.Reading.{symbol_of, symbols_of}
 use Rattle.sym_map.specs.Grammar.{IsMapLine, Names}
 use Rattle.sym_map.specs.Grammar.IsMapLine.{named as named_line}
-use Rattle.sym_map.specs.Grammar.Names.{nothing, one_more}
+use Rattle.mach_base.specs.LineByLine.EachSays.{nothing, one_more}
 use Rattle.sym_map.proofs.Grammar.{gives_its_symbols}
 use Rattle.sym_map.proofs.Digits.{length-hex_text}
 use Rattle.elf_img.specs.MapText.{MapSymbol, IsMapSymbol, letter_of, symbol_line, map_text, named}

@@ -1,5 +1,6 @@
 pub mod Number
 pub mod Lines
+pub mod LineByLine
 pub mod Texts
 pub mod Masks
 pub mod Sequence

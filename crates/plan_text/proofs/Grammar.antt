@@ -1,5 +1,5 @@
 -- What reading a plan file gives is what its grammar says.
-use Rattle.std.proofs.Common.{◌≡◌, ℕ, suc, ◌+◌, ◌<◌, ◌≤◌, ◌⊎◌, inl, inr, Bool, true, false, cond, nat_lt, List, [], ◌∷◌, ◌++◌, length, Option, Some, None, Result, Ok, Err, refl, sym, ap, subst, ◌∙◌, arith}
+use Rattle.std.proofs.Common.{◌≡◌, ℕ, ◌+◌, ◌<◌, ◌≤◌, ◌⊎◌, inl, inr, Bool, true, false, cond, nat_lt, List, [], ◌∷◌, ◌++◌, length, Option, Some, None, Result, Ok, Err, refl, sym, ap, subst, ◌∙◌, arith}
 use Rattle.std.specs.List.{cons_option}
 use Rattle.std.specs.Option.{option_map}
 use Rattle.std.specs.Result.{result_ok}
@@ -10,11 +10,13 @@ use Rattle.mach_base.specs.declared.event.What.TheVariants as counts
 use Rattle.mach_base.specs.Lines.{lines_of, words_of, is_comment}
 use Rattle.mach_base.specs.Number.{number_of}
 use Rattle.mach_base.specs.Sequence.{◌>>=◌}
+use Rattle.mach_base.proofs.LineByLine.{each_line-right, each_line-bad, cases_lines as each_cases, RightUpTo}
+use Rattle.mach_base.specs.LineByLine.{nothing, one_more}
 use Rattle.plan_text.specs.declared.fault.PlanFault.{PlanFault}
 use Rattle.plan_text.specs.declared.fault.PlanFault.TheVariants.{Bad, TooLarge}
 use Rattle.plan_text.specs.Ticks.{AreBelow, Run, ticks_of}
-use Rattle.plan_text.specs.Reading.{is_header, hart_below, hart_of, times_of, ended, with_word, onto, run_from, line_of, read_lines, all_lines, told, within_limit, plan_of}
-use Rattle.plan_text.specs.Grammar.{NameHarts, no_hart, a_hart, IsPlanLine, blank, comment, once, several, Say, nothing, one_more, IsPlan, HasNoHeader, no_line, another, IsFirstBad, GivesItsRuns, NamesTheFirstBadLine, SayTooMany, CountsItsTicks}
+use Rattle.plan_text.specs.Reading.{is_header, hart_below, hart_of, times_of, ended, with_word, onto, run_from, line_of, all_lines, told, within_limit, plan_of}
+use Rattle.plan_text.specs.Grammar.{NameHarts, no_hart, a_hart, IsPlanLine, blank, comment, once, several, Say, IsPlan, HasNoHeader, no_line, another, IsFirstBad, GivesItsRuns, NamesTheFirstBadLine, SayTooMany, CountsItsTicks}
 use Rattle.plan_text.proofs.Last.{no_hart_of_times}
 use Rattle.plan_text.proofs.Below.{RunsBelow, ticks_below}
 
@@ -139,49 +141,18 @@ bad_from number n words wrong = elim (cases_line number n words) [ inl r ↦ abs
 
 -- Lines one after the other.
 
-say_is : (n number : ℕ) (lines : List (List ℕ)) (runs : List Run) → Say n lines runs → read_lines number n lines ≡ Ok runs
-unfolding read_lines
-say_is n number lines runs nothing = refl
-say_is n number lines runs (one_more l ls run rest is more) =
-    rw (right_is number n (words_of l) run is, say_is n (number + 1) ls rest more) refl
+-- how a line is read by its number and its words
+abbrev pub line_for : ℕ → ℕ → List (List ℕ) → Result (Option Run) PlanFault
+line_for n number words = line_of number n words
 
-bad_after : (n number : ℕ) (before : List (List ℕ)) (runs : List Run) (l : List ℕ) (ls : List (List ℕ)) → Say n before runs → line_of (number + length before) n (words_of l) ≡ Err (Bad (number + length before)) → read_lines number n (before ++ l ∷ ls) ≡ Err (Bad (number + length before))
-unfolding read_lines
-bad_after n number before runs l ls nothing bad =
-    let here : number + 0 ≡ number = omega arith in
-    rw (rw here at bad) (ap (λ (m : ℕ). Err (Bad m)) (sym here))
-bad_after n number before runs l ls (one_more m ms run rest is more) bad =
-    let next : number + suc (length ms) ≡ (number + 1) + length ms = omega arith in
-    rw (right_is number n (words_of m) run is, bad_after n (number + 1) ms rest l ls more (rw next at bad), next) refl
+right_for : (n number : ℕ) (words : List (List ℕ)) (run : Option Run) → IsPlanLine n words run → line_for n number words ≡ Ok run
+right_for n number words run is = right_is number n words run is
 
--- lines that are right up to one that is bad
-record RightUpTo (n : ℕ) (lines : List (List ℕ)) : Type 0 where
-  before : List (List ℕ)
-  line : List ℕ
-  after : List (List ℕ)
-  split : lines ≡ before ++ line ∷ after
-  runs : List Run
-  right : Say n before runs
-  wrong : (run : Option Run) → ¬ (IsPlanLine n (words_of line) run)
+cases_words : (n : ℕ) (words : List (List ℕ)) → ((run : Option Run) × IsPlanLine n words run) ⊎ ((run : Option Run) → ¬ (IsPlanLine n words run))
+cases_words n words = elim (cases_line 0 n words) [ inl r ↦ inl (r.found, r.right) | inr bad ↦ inr (wrong_from 0 n words bad) ]
 
-cases_lines : (n : ℕ) (lines : List (List ℕ)) → ((runs : List Run) × Say n lines runs) ⊎ RightUpTo n lines
-cases_lines n [] = inl ([], nothing)
-cases_lines n (l ∷ ls) =
-    elim (cases_line 0 n (words_of l)) [
-      | inr bad ↦ inr (record { before = []; line = l; after = ls; split = refl; runs = []; right = nothing; wrong = wrong_from 0 n (words_of l) bad })
-      | inl r ↦ elim (cases_lines n ls) [
-        | inl more ↦ inl (cons_option r.found more.0, one_more l ls r.found more.0 r.right more.1)
-        | inr b ↦ inr (record {
-          before = l ∷ b.before;
-          line = b.line;
-          after = b.after;
-          split = ap (λ (ms : List (List ℕ)). l ∷ ms) b.split;
-          runs = cons_option r.found b.runs;
-          right = one_more l b.before r.found b.runs r.right b.right;
-          wrong = b.wrong;
-        })
-      ]
-    ]
+cases_lines : (n : ℕ) (lines : List (List ℕ)) → ((runs : List Run) × Say n lines runs) ⊎ RightUpTo (IsPlanLine n) lines
+cases_lines n lines = each_cases (IsPlanLine n) (cases_words n) lines
 
 -- Texts.
 
@@ -194,7 +165,7 @@ record BadAfterFirst (n : ℕ) (lines : List (List ℕ)) : Type 0 where
   others : List (List ℕ)
   split : lines ≡ first ∷ others
   header : is_header (words_of first) ≡ true
-  bad : RightUpTo n others
+  bad : RightUpTo (IsPlanLine n) others
 
 cases_others : (n : ℕ) (l : List ℕ) (ls : List (List ℕ)) → is_header (words_of l) ≡ true → AllRight n (l ∷ ls) ⊎ BadAfterFirst n (l ∷ ls)
 cases_others n l ls is =
@@ -218,16 +189,16 @@ no_header n lines (another l ls other) = rw other refl
 
 all_right : (n : ℕ) (lines : List (List ℕ)) (runs : List Run) → IsPlan n lines runs → all_lines n lines ≡ Ok runs
 unfolding all_lines
-all_right n lines runs plan = rw (plan.split, plan.header) (say_is n 2 plan.others runs plan.say)
+all_right n lines runs plan = rw (plan.split, plan.header) (each_line-right (IsPlanLine n) (line_for n) (right_for n) 2 plan.others runs plan.say)
 
 bad_line : (n : ℕ) (lines : List (List ℕ)) (first : List ℕ) (before : List (List ℕ)) (runs : List Run) (l : List ℕ) (ls : List (List ℕ)) → lines ≡ first ∷ before ++ l ∷ ls → is_header (words_of first) ≡ true → Say n before runs → ((run : Option Run) → ¬ (IsPlanLine n (words_of l) run)) → all_lines n lines ≡ Err (Bad (2 + length before))
 unfolding all_lines
 bad_line n lines first before runs l ls split header right wrong =
-    rw (split, header) (bad_after n 2 before runs l ls right (bad_from (2 + length before) n (words_of l) wrong))
+    rw (split, header) (each_line-bad (IsPlanLine n) (line_for n) Bad (right_for n) 2 before runs l ls right (bad_from (2 + length before) n (words_of l) wrong))
 
 bad_there : (n : ℕ) (lines : List (List ℕ)) (b : BadAfterFirst n lines) → all_lines n lines ≡ Err (Bad (2 + length b.bad.before))
 bad_there n lines b =
-    bad_line n lines b.first b.bad.before b.bad.runs b.bad.line b.bad.after (b.split ∙ ap (λ (ls : List (List ℕ)). b.first ∷ ls) b.bad.split) b.header b.bad.right b.bad.wrong
+    bad_line n lines b.first b.bad.before b.bad.values b.bad.line b.bad.after (b.split ∙ ap (λ (ls : List (List ℕ)). b.first ∷ ls) b.bad.split) b.header b.bad.right b.bad.wrong
 
 limited : (r s : Result (List Run) PlanFault) → r ≡ s → r >>= within_limit ≡ s >>= within_limit
 limited r s e = ap (λ (x : Result (List Run) PlanFault). x >>= within_limit) e
@@ -300,7 +271,7 @@ names_bad n text number gives =
               split = b.split ∙ ap (λ (ls : List (List ℕ)). b.first ∷ ls) b.bad.split;
               header = b.header;
               place = omega (arith, same);
-              right = (b.bad.runs, b.bad.right);
+              right = (b.bad.values, b.bad.right);
               wrong = b.bad.wrong;
             })
       ]

@@ -1,11 +1,11 @@
 -- The format of plan files as a relation: which lines are right, which runs they say, and which line is the first that isn't
 -- right. The words of a line are those of `words_of`.
 use Rattle.std.specs.Prelude.{◌≡◌, ℕ, ◌+◌, ◌<◌, ◌≤◌, ◌⊎◌, true, false, List, [], ◌∷◌, ◌++◌, length, Option, Some, None, Ok, Err, ◌↔◌}
-use Rattle.std.specs.List.{cons_option}
 use Rattle.mach_base.specs.Lines.{lines_of, words_of, is_comment}
 use Rattle.mach_base.specs.declared.event.Hart.{Hart}
 use Rattle.mach_base.specs.declared.event.What.TheVariants as counts
 use Rattle.mach_base.specs.declared.limits.TheConstants.{MOST_TICKS}
+use Rattle.mach_base.specs.LineByLine.{EachSays}
 use Rattle.plan_text.specs.declared.fault.PlanFault.TheVariants.{Bad, TooLarge}
 use Rattle.plan_text.specs.Ticks.{Run, ticks_of}
 use Rattle.plan_text.specs.Reading.{is_header, hart_of, times_of, told, plan_of}
@@ -27,9 +27,8 @@ pub data IsPlanLine (n : ℕ) : List (List ℕ) → Option Run → Type 0 where
       IsPlanLine n (word ∷ words ++ last ∷ []) (Some (record { harts = hart ∷ harts; times = times }))
 
 -- the runs that lines say, in the order of the lines, each of which is right
-pub data Say (n : ℕ) : List (List ℕ) → List Run → Type 0 where
-  nothing : Say n [] []
-  one_more : (l : List ℕ) (ls : List (List ℕ)) (run : Option Run) (runs : List Run) → IsPlanLine n (words_of l) run → Say n ls runs → Say n (l ∷ ls) (cons_option run runs)
+abbrev pub Say : ℕ → List (List ℕ) → List Run → Type 0
+Say n lines runs = EachSays (IsPlanLine n) lines runs
 
 -- the lines of a plan: the first line, and lines that say these runs
 pub record IsPlan (n : ℕ) (lines : List (List ℕ)) (runs : List Run) : Type 0 where

@@ -1,14 +1,14 @@
 -- The plan file: the runs that its lines say.
-use Rattle.std.specs.Prelude.{◌≡◌, ℕ, ◌+◌, ◌-◌, ◌^◌, ◌==◌, ◌&&◌, Bool, List, [], ◌∷◌, ◌++◌, length, codes, min, Option, Some, None, Result, Ok, Err, nat_lt, nat_le, if◌then◌else◌}
+use Rattle.std.specs.Prelude.{◌≡◌, ℕ, ◌-◌, ◌^◌, ◌==◌, ◌&&◌, Bool, List, [], ◌∷◌, ◌++◌, length, codes, min, Option, Some, None, Result, Ok, Err, nat_lt, nat_le, if◌then◌else◌}
 use Rattle.std.specs.Option.{option_map}
 use Rattle.std.specs.Result.{result_ok}
-use Rattle.std.specs.List.{cons_option}
 use Rattle.mach_base.specs.declared.event.Hart.{Hart}
 use Rattle.mach_base.specs.declared.event.What.TheVariants as counts
 use Rattle.mach_base.specs.declared.limits.TheConstants.{MOST_TICKS}
 use Rattle.mach_base.specs.Sequence.{◌>>=◌}
 use Rattle.mach_base.specs.Number.{number_of}
 use Rattle.mach_base.specs.Lines.{lines_of, words_of, is_comment, is_header_of}
+use Rattle.mach_base.specs.LineByLine.{each_line}
 use Rattle.plan_text.specs.declared.fault.PlanFault.{PlanFault}
 use Rattle.plan_text.specs.declared.fault.PlanFault.TheVariants.{Bad, TooLarge, OutOfMemory}
 use Rattle.plan_text.specs.Ticks.{Run, ticks_of}
@@ -96,10 +96,8 @@ line_of number harts [] = Ok None
 line_of number harts (word ∷ words) = if is_comment word then Ok None else known number (run_of harts (word ∷ words))
 
 -- the runs of the lines in order, of which the first has this number
-unfoldable pub read_lines : ℕ → ℕ → List (List ℕ) → Result (List Run) PlanFault
-read_lines number harts [] = Ok []
-read_lines number harts (l ∷ ls) =
-    line_of number harts (words_of l) >>= λ found. read_lines (number + 1) harts ls >>= λ rest. Ok (cons_option found rest)
+abbrev pub read_lines : ℕ → ℕ → List (List ℕ) → Result (List Run) PlanFault
+read_lines number harts lines = each_line (λ k words. line_of k harts words) number lines
 
 -- The runs of all lines, of which the first is that of a plan.
 unfoldable pub all_lines : ℕ → List (List ℕ) → Result (List Run) PlanFault

@@ -1,16 +1,16 @@
 -- What reading a map file gives is what its grammar says.
-use Rattle.std.proofs.Common.{◌≡◌, ℕ, suc, ◌+◌, ◌<◌, ◌≤◌, ◌⊎◌, inl, inr, Bool, false, cond, nat_lt, List, [], ◌∷◌, ◌++◌, length, Option, Some, None, Result, Ok, Err, refl, sym, ap, subst, ◌∙◌, arith}
-use Rattle.std.specs.List.{cons_option}
+use Rattle.std.proofs.Common.{◌≡◌, ℕ, ◌+◌, ◌<◌, ◌≤◌, ◌⊎◌, inl, inr, Bool, false, cond, nat_lt, List, [], ◌∷◌, ◌++◌, length, Option, Some, None, Result, Ok, Err, refl, sym, ap, subst, ◌∙◌, arith}
 use Rattle.std.proofs.lemmas.Bool.{cases_Bool, ltb-true, ltb-false, lt-ltb, le-ltb}
 use Rattle.mach_base.specs.declared.limits.TheConstants.{MOST_SYMBOLS}
 use Rattle.mach_base.specs.declared.event.What.TheVariants.{Symbols}
 use Rattle.mach_base.specs.Lines.{lines_of, words_of, is_comment}
 use Rattle.mach_base.specs.Machine.{Symbol}
 use Rattle.mach_base.specs.Sequence.{◌>>=◌}
+use Rattle.mach_base.proofs.LineByLine.{each_line-right, each_line-bad, cases_lines as each_cases, RightUpTo}
 use Rattle.sym_map.specs.declared.fault.MapFault.{MapFault}
 use Rattle.sym_map.specs.declared.fault.MapFault.TheVariants.{Bad, TooLarge}
 use Rattle.sym_map.specs.Reading.{is_undefined, symbol_of, line_of, read_lines, within_limit, symbols_of}
-use Rattle.sym_map.specs.Grammar.{IsMapLine, Names, IsFirstBad, GivesItsSymbols, NamesTheFirstBadLine, NameTooMany, CountsItsSymbols, blank, comment, undefined, named, in_module, nothing, one_more}
+use Rattle.sym_map.specs.Grammar.{IsMapLine, Names, IsFirstBad, GivesItsSymbols, NamesTheFirstBadLine, NameTooMany, CountsItsSymbols, blank, comment, undefined, named, in_module}
 
 -- One line.
 
@@ -64,60 +64,22 @@ bad_from number words wrong = elim (cases_line number words) [ inl r ↦ absurd 
 
 -- Lines one after the other.
 
-names_is : (number : ℕ) (lines : List (List ℕ)) (ss : List Symbol) → Names lines ss → read_lines number lines ≡ Ok ss
-unfolding read_lines
-names_is number lines ss nothing = refl
-names_is number lines ss (one_more l ls s rest is more) =
-    rw (right_is number (words_of l) s is, names_is (number + 1) ls rest more) refl
+cases_words : (words : List (List ℕ)) → ((s : Option Symbol) × IsMapLine words s) ⊎ ((s : Option Symbol) → ¬ (IsMapLine words s))
+cases_words words = elim (cases_line 0 words) [ inl r ↦ inl (r.found, r.right) | inr bad ↦ inr (wrong_from 0 words bad) ]
 
-bad_after : (number : ℕ) (before : List (List ℕ)) (ss : List Symbol) (l : List ℕ) (ls : List (List ℕ)) → Names before ss → line_of (number + length before) (words_of l) ≡ Err (Bad (number + length before)) → read_lines number (before ++ l ∷ ls) ≡ Err (Bad (number + length before))
-unfolding read_lines
-bad_after number before ss l ls nothing bad =
-    let here : number + 0 ≡ number = omega arith in
-    rw (rw here at bad) (ap (λ (n : ℕ). Err (Bad n)) (sym here))
-bad_after number before ss l ls (one_more m ms s rest is more) bad =
-    let next : number + suc (length ms) ≡ (number + 1) + length ms = omega arith in
-    rw (right_is number (words_of m) s is, bad_after (number + 1) ms rest l ls more (rw next at bad), next) refl
-
--- lines that are right up to one that is bad
-record RightUpTo (lines : List (List ℕ)) : Type 0 where
-  before : List (List ℕ)
-  line : List ℕ
-  after : List (List ℕ)
-  split : lines ≡ before ++ line ∷ after
-  symbols : List Symbol
-  right : Names before symbols
-  wrong : (s : Option Symbol) → ¬ (IsMapLine (words_of line) s)
-
-cases_lines : (lines : List (List ℕ)) → ((symbols : List Symbol) × Names lines symbols) ⊎ RightUpTo lines
-cases_lines [] = inl ([], nothing)
-cases_lines (l ∷ ls) =
-    elim (cases_line 0 (words_of l)) [
-      | inr bad ↦ inr (record { before = []; line = l; after = ls; split = refl; symbols = []; right = nothing; wrong = wrong_from 0 (words_of l) bad })
-      | inl r ↦ elim (cases_lines ls) [
-        | inl more ↦ inl (cons_option r.found more.0, one_more l ls r.found more.0 r.right more.1)
-        | inr b ↦ inr (record {
-          before = l ∷ b.before;
-          line = b.line;
-          after = b.after;
-          split = ap (λ (ms : List (List ℕ)). l ∷ ms) b.split;
-          symbols = cons_option r.found b.symbols;
-          right = one_more l b.before r.found b.symbols r.right b.right;
-          wrong = b.wrong;
-        })
-      ]
-    ]
+cases_lines : (lines : List (List ℕ)) → ((symbols : List Symbol) × Names lines symbols) ⊎ RightUpTo IsMapLine lines
+cases_lines lines = each_cases IsMapLine cases_words lines
 
 -- Texts.
 
 -- a text whose lines are all right
 all_right : (text : List ℕ) (ss : List Symbol) → Names (lines_of text) ss → symbols_of text ≡ within_limit ss
-all_right text ss right = ap (λ (r : Result (List Symbol) MapFault). r >>= within_limit) (names_is 1 (lines_of text) ss right)
+all_right text ss right = ap (λ (r : Result (List Symbol) MapFault). r >>= within_limit) (each_line-right IsMapLine line_of right_is 1 (lines_of text) ss right)
 
 -- a text with a line that isn't
 bad_line : (text : List ℕ) (before : List (List ℕ)) (ss : List Symbol) (l : List ℕ) (ls : List (List ℕ)) → lines_of text ≡ before ++ l ∷ ls → Names before ss → ((s : Option Symbol) → ¬ (IsMapLine (words_of l) s)) → symbols_of text ≡ Err (Bad (1 + length before))
 bad_line text before ss l ls split right wrong =
-    let bad = bad_after 1 before ss l ls right (bad_from (1 + length before) (words_of l) wrong) in
+    let bad = each_line-bad IsMapLine line_of Bad right_is 1 before ss l ls right (bad_from (1 + length before) (words_of l) wrong) in
     ap (λ (ms : List (List ℕ)). read_lines 1 ms >>= within_limit) split ∙ ap (λ (r : Result (List Symbol) MapFault). r >>= within_limit) bad
 
 few_is : (ss : List Symbol) → length ss ≤ MOST_SYMBOLS → within_limit ss ≡ Ok ss
@@ -157,7 +119,7 @@ gives_there text symbols gives =
             subst (λ (ss : List Symbol). Names (lines_of text) ss × (length ss ≤ MOST_SYMBOLS)) same (all.1, few.0)
         | inr many ↦ let large = all_right text all.0 all.1 ∙ many.1 in absurd (cc)
       ]
-      | inr b ↦ let bad = bad_line text b.before b.symbols b.line b.after b.split b.right b.wrong in absurd (cc)
+      | inr b ↦ let bad = bad_line text b.before b.values b.line b.after b.split b.right b.wrong in absurd (cc)
     ]
 
 pub gives_its_symbols : GivesItsSymbols
@@ -174,7 +136,7 @@ names_bad text number gives =
         | inr many ↦ let large = all_right text all.0 all.1 ∙ many.1 in absurd (cc)
       ]
       | inr b ↦
-          let bad = bad_line text b.before b.symbols b.line b.after b.split b.right b.wrong in
+          let bad = bad_line text b.before b.values b.line b.after b.split b.right b.wrong in
           let same = bad_same number (1 + length b.before) (symbols_of text) gives bad in
           record {
             before = b.before;
@@ -182,7 +144,7 @@ names_bad text number gives =
             after = b.after;
             split = b.split;
             place = omega arith;
-            right = (b.symbols, b.right);
+            right = (b.values, b.right);
             wrong = b.wrong;
           }
     ]
@@ -204,7 +166,7 @@ counts_there text size gives =
             let same = large_same size (length all.0) (symbols_of text) gives (all_right text all.0 all.1 ∙ many.1) in
             record { symbols = all.0; names = all.1; count = same; many = omega (arith, many.0) }
       ]
-      | inr b ↦ let bad = bad_line text b.before b.symbols b.line b.after b.split b.right b.wrong in absurd (cc)
+      | inr b ↦ let bad = bad_line text b.before b.values b.line b.after b.split b.right b.wrong in absurd (cc)
     ]
 
 pub counts_its_symbols : CountsItsSymbols

@@ -6,9 +6,10 @@ use Rattle.std.proofs.lemmas.Bool.{and_from, and_parts, leb-true, not_from_false
 use Rattle.mach_base.specs.Lines.{is_blank, begins_with_word, onto_first, lines_of, words_of}
 use Rattle.mach_base.specs.Machine.{Symbol}
 use Rattle.mach_base.specs.declared.limits.TheConstants.{SYMBOL_BYTES}
+use Rattle.mach_base.specs.LineByLine.{nothing, one_more}
 use Rattle.sym_map.specs.Limits.{IsSymbolName, AreSymbols}
 use Rattle.sym_map.specs.Reading.{symbols_of, symbol_of, address_of}
-use Rattle.sym_map.specs.Grammar.{IsMapLine, Names, blank, comment, undefined, named, in_module, nothing, one_more}
+use Rattle.sym_map.specs.Grammar.{IsMapLine, Names, blank, comment, undefined, named, in_module}
 use Rattle.sym_map.proofs.Grammar.{gives_its_symbols}
 
 -- what is between blanks

@@ -1,11 +1,11 @@
 -- The format of map files as a relation: which lines are right, which symbols they name, and which line is the first that
 -- isn't right. The words of a line are those of `words_of`.
 use Rattle.std.specs.Prelude.{◌≡◌, ℕ, ◌+◌, ◌<◌, ◌≤◌, true, false, List, [], ◌∷◌, ◌++◌, length, Option, Some, None, Ok, Err, ◌↔◌}
-use Rattle.std.specs.List.{cons_option}
 use Rattle.mach_base.specs.Machine.{Symbol}
 use Rattle.mach_base.specs.Lines.{lines_of, words_of, is_comment}
 use Rattle.mach_base.specs.declared.limits.TheConstants.{MOST_SYMBOLS}
 use Rattle.mach_base.specs.declared.event.What.TheVariants.{Symbols}
+use Rattle.mach_base.specs.LineByLine.{EachSays}
 use Rattle.sym_map.specs.declared.fault.MapFault.TheVariants.{Bad, TooLarge}
 use Rattle.sym_map.specs.Reading.{is_undefined, symbol_of, symbols_of}
 
@@ -20,9 +20,8 @@ pub data IsMapLine : List (List ℕ) → Option Symbol → Type 0 where
       symbol_of addr kind name ≡ Some s → IsMapLine (addr ∷ kind ∷ name ∷ of_module ∷ []) (Some s)
 
 -- the symbols that lines name, in the order of the lines, each of which is right
-pub data Names : List (List ℕ) → List Symbol → Type 0 where
-  nothing : Names [] []
-  one_more : (l : List ℕ) (ls : List (List ℕ)) (s : Option Symbol) (ss : List Symbol) → IsMapLine (words_of l) s → Names ls ss → Names (l ∷ ls) (cons_option s ss)
+abbrev pub Names : List (List ℕ) → List Symbol → Type 0
+Names lines ss = EachSays IsMapLine lines ss
 
 -- the line of this number, from 1, is the first that isn't right
 pub record IsFirstBad (lines : List (List ℕ)) (number : ℕ) : Type 0 where

@@ -1,15 +1,15 @@
 -- The map file: the symbols that its lines name.
-use Rattle.std.specs.Prelude.{◌≡◌, ℕ, ◌+◌, ◌==◌, ◌&&◌, ◌||◌, Bool, not, List, [], ◌∷◌, length, codes, Option, Some, None, Result, Ok, Err, nat_lt, nat_le, if◌then◌else◌}
+use Rattle.std.specs.Prelude.{◌≡◌, ℕ, ◌==◌, ◌&&◌, ◌||◌, Bool, not, List, [], ◌∷◌, length, codes, Option, Some, None, Result, Ok, Err, nat_lt, nat_le, if◌then◌else◌}
 use Rattle.std.specs.Option.{option_map}
 use Rattle.std.specs.Result.{result_ok}
-use Rattle.std.specs.List.{cons_option}
 use Rattle.std.specs.Str.{bytes_eq}
 use Rattle.mach_base.specs.declared.event.What.TheVariants as counts
 use Rattle.mach_base.specs.declared.limits.TheConstants.{MOST_SYMBOLS, SYMBOL_BYTES}
 use Rattle.mach_base.specs.Machine.{Symbol}
 use Rattle.mach_base.specs.Sequence.{◌>>=◌}
 use Rattle.mach_base.specs.Number.{has_prefix, number_of}
-use Rattle.mach_base.specs.Lines.{lines_of, words_of, is_comment}
+use Rattle.mach_base.specs.Lines.{lines_of, is_comment}
+use Rattle.mach_base.specs.LineByLine.{each_line}
 use Rattle.sym_map.specs.declared.fault.MapFault.{MapFault}
 use Rattle.sym_map.specs.declared.fault.MapFault.TheVariants.{Bad, TooLarge, OutOfMemory}
 
@@ -56,10 +56,8 @@ line_of number [] = Ok None
 line_of number (word ∷ words) = if is_comment word then Ok None else after_first number word words
 
 -- the symbols of the lines in order, of which the first has this number
-unfoldable pub read_lines : ℕ → List (List ℕ) → Result (List Symbol) MapFault
-read_lines number [] = Ok []
-read_lines number (l ∷ ls) =
-    line_of number (words_of l) >>= λ found. read_lines (number + 1) ls >>= λ rest. Ok (cons_option found rest)
+abbrev pub read_lines : ℕ → List (List ℕ) → Result (List Symbol) MapFault
+read_lines number lines = each_line line_of number lines
 
 -- the symbols, if they aren't too many
 abbrev pub within_limit : List Symbol → Result (List Symbol) MapFault

@@ -1,7 +1,7 @@
 use Rattle.std.proofs.Common.{◌≡◌, ◌+◌, ◌≤◌, length}
 use Rattle.mach_base.specs.Lines.{lines_of}
 use Rattle.plan_text.specs.Reading.{read_lines}
-use Rattle.plan_text.proofs.Lines.{prepended}
+use Rattle.mach_base.proofs.LineByLine.{prepended}
 use Rattle.plan_text.proofs.reading.read_lines.Given as goal
 
 -- the runs so far, and those of the lines that are left

@@ -1,7 +1,7 @@
 use Rattle.std.proofs.Common.{◌≡◌, ◌+◌, ◌≤◌, length}
 use Rattle.mach_base.specs.Lines.{lines_of}
 use Rattle.sym_map.specs.Reading.{read_lines}
-use Rattle.sym_map.proofs.Lines.{prepended}
+use Rattle.mach_base.proofs.LineByLine.{prepended}
 use Rattle.sym_map.proofs.reading.read_lines.Given as goal
 
 -- the symbols so far, and those of the lines that are left
