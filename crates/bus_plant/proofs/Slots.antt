@@ -272,3 +272,16 @@ within-places raw places step p i e h =
 pub unplanted-slots : (raw : Memory) (places : List (Option Saved)) (step : Option Saved) (p : PlantedMemory) (addr at : ℕ) → planted_memory raw places step ≡ p → at ≡ addr → is_planted p addr ≡ false → has_address (addresses (step ∷ places)) at ≡ false
 unplanted-slots raw places step p addr at e same h =
     ap (λ a. has_address (addresses (step ∷ places)) a) same ∙ ap (λ (q : PlantedMemory). has_address (planted_addresses q) addr) e ∙ h
+
+-- what is planted at a place that is free, and what is pulled from it, by the planted memory that is seen
+module _ (raw after : Memory) (places : List (Option Saved)) (step : Option Saved) (p : PlantedMemory) (i : ℕ) (s : Saved) (are : AreKept raw places step) (seen : planted_memory raw places step ≡ p) (place : i < length p.places) where
+  pub place-kept : (addr : ℕ) → is_planted p addr ≡ false → s.addr ≡ addr → IsSaved raw s after → AreKept after (slice_set places i (Some s)) step
+  place-kept addr unplanted at saved =
+      plant-kept raw after places step i s are (within-places raw places step p i seen place) saved (unplanted-slots raw places step p addr s.addr seen at unplanted)
+
+  pub place-view : (addr : ℕ) → is_planted p addr ≡ false → s.addr ≡ addr → IsSaved raw s after → slice_index_or p.places i None ≡ None → planted_memory after (slice_set places i (Some s)) step ≡ record p { places = slice_set p.places i (Some addr) }
+  place-view addr unplanted at saved free =
+      let empty = free-slot places i (ap (λ (q : PlantedMemory). slice_index_or q.places i None) seen ∙ free) in
+      plant-view raw after places step i s are (within-places raw places step p i seen place) saved empty (unplanted-slots raw places step p addr s.addr seen at unplanted)
+      ∙ ap (λ a. record (planted_memory raw places step) { places = slice_set (addresses places) i (Some a) }) at
+      ∙ ap (λ (q : PlantedMemory). record q { places = slice_set q.places i (Some addr) }) seen

@@ -63,13 +63,13 @@ impl Store {
         ensures files { self.new.files ≡ self.old.files }
     {
         match slot_of(self.slots.as_slice(), name) {
-            Some(slot) => self.slots[slot].reserve(size)?,
+            Some(slot) => self.slots[slot].reserve(size),
             None => {
                 let slot = Slot::new(self.alloc, name, size)?;
                 self.slots.push(slot)?;
+                Ok(())
             }
         }
-        Ok(())
     }
 
     /// Writes bytes for which there is room.

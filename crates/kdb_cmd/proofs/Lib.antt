@@ -1,4 +1,5 @@
 pub mod Apart
+mod Changed
 pub mod Gathered
 pub mod Keeps
 pub mod Limits

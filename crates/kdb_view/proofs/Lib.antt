@@ -1,3 +1,4 @@
+mod Displayed
 mod Gathered
 mod Places
 mod Printed

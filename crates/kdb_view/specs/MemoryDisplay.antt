@@ -2,14 +2,24 @@
 use Rattle.std.specs.Prelude.{ℕ, ◌*◌, ◌/◌, List, unwrap_or, Option, Some, None, Result, Ok, Err}
 use Rattle.mach_base.specs.Machine.{Memory, Symbol, LineState}
 use Rattle.mach_base.specs.Sequence.{◌>>=◌}
+use Rattle.kdb_mem.specs.declared.mem_fault.MemFault.{MemFault}
+use Rattle.kdb_mem.specs.declared.mem_fault.MemFault.TheVariants.{BadAddr, TooWide, OutOfMemory}
 use Rattle.kdb_mem.specs.Range.{first_unmapped, first_refused}
 use Rattle.kdb_mem.specs.Shown.{show_text, raw_text, syms_text}
 use Rattle.kdb_mem.specs.Shown as shown
 use Rattle.kdb_view.specs.declared.arguments.Values.{Values}
 use Rattle.kdb_table.specs.declared.diagnostics.Diagnostic.{Diagnostic}
-use Rattle.kdb_table.specs.declared.diagnostics.Diagnostic.TheVariants.{BadAddress}
+use Rattle.kdb_table.specs.declared.diagnostics.Diagnostic.TheVariants.{BadAddress, BadNumber}
+use Rattle.kdb_table.specs.declared.refusals.Refusal.{Refusal}
+use Rattle.kdb_table.specs.declared.refusals.Refusal.TheVariants.{Diagnosed, OutOfMemory as NoMemory}
 use Rattle.kdb_view.specs.Arguments.{address, count_wanted, count_or_diagnostic, lines_wanted}
 use Rattle.kdb_table.specs.Table.{spelled_width, spelled_count}
+
+-- the refusal of a command whose memory isn't shown or changed; the value that is too wide is its second argument
+abbrev pub memory_refusal : MemFault → Refusal
+memory_refusal (BadAddr addr) = Diagnosed (BadAddress addr)
+memory_refusal TooWide = Diagnosed (BadNumber 2)
+memory_refusal OutOfMemory = NoMemory
 
 -- the text, unless an address is refused
 abbrev pub unless_unmapped : Option ℕ → List ℕ → Result (List ℕ) Diagnostic

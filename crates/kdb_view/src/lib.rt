@@ -22,7 +22,7 @@ mod view;
 
 pub use arguments::{Values, argument, values_of};
 pub use breakpoints::{BreakpointAnswer, bl, bp, change_answer};
-pub use memory_display::{id, md, md_count, mdr, mds};
+pub use memory_display::{id, md, md_count, mdr, mds, memory_refusal};
 pub use processors::{CpuAnswer, bt, btc, cpu, cpu_list};
 pub use session::Kdb;
 pub use variables::{Assignment, assignment_of, env, set, two_words};

@@ -1,7 +1,7 @@
 ghost use Rattle.std.specs.Prelude.{◌≡◌, ◌≤◌, IfOk};
 ghost use Rattle.mach_base.specs.Bytes.{IsWidth};
 ghost use Rattle.kdb_table.specs.Refused.{Answers};
-ghost use Rattle.kdb_view.specs.MemoryDisplay.{words_text, bytes_text, symbols_text, md_text, md_count_text, mdr_text, mds_text, instructions_text, id_text};
+ghost use Rattle.kdb_view.specs.MemoryDisplay.{memory_refusal, words_text, bytes_text, symbols_text, md_text, md_count_text, mdr_text, mds_text, instructions_text, id_text};
 
 use crate::arguments::{Values, count_wanted, lines_wanted};
 use crate::view::View;
@@ -11,8 +11,19 @@ use mach_base::{Peek, Text};
 use std::alloc::Global;
 use sym_map::Symbols;
 
+/// The refusal of a command whose memory isn't shown or changed. The value that is too wide is its second argument.
+pub fn memory_refusal(fault: MemFault) -> Refusal
+    ensures { result ≡ memory_refusal fault }
+{
+    match fault {
+        MemFault::BadAddr(bad) => Refusal::Diagnosed(Diagnostic::BadAddress(bad)),
+        MemFault::TooWide => Refusal::Diagnosed(Diagnostic::BadNumber(2)),
+        MemFault::OutOfMemory => Refusal::OutOfMemory,
+    }
+}
+
 /// This many words of memory, 16 bytes on a line.
-#[tactic(auto, unfolding(crate::specs::MemoryDisplay::words_text))]
+#[tactic(auto, using(crate::proofs::Displayed::refused), unfolding(crate::specs::MemoryDisplay::words_text))]
 fn words_text<P: Peek>(
     alloc: Global,
     mem: &P,
@@ -26,23 +37,19 @@ fn words_text<P: Peek>(
     let mut out = Vec::new(alloc);
     match show(mem, &mut out, addr, width, count) {
         Ok(()) => Ok(Text::from_vec(out)),
-        Err(MemFault::BadAddr(bad)) => Err(Refusal::Diagnosed(Diagnostic::BadAddress(bad))),
-        Err(MemFault::TooWide) => unreachable!(),
-        Err(MemFault::OutOfMemory) => Err(Refusal::OutOfMemory),
+        Err(fault) => Err(memory_refusal(fault)),
     }
 }
 
 /// This many bytes of memory as digits.
-#[tactic(auto, unfolding(crate::specs::MemoryDisplay::bytes_text))]
+#[tactic(auto, using(crate::proofs::Displayed::refused), unfolding(crate::specs::MemoryDisplay::bytes_text))]
 fn bytes_text<P: Peek>(alloc: Global, mem: &P, addr: u64, count: u32) -> Result<Text, Refusal>
     ensures { Answers result (bytes_text (P.memory mem.now) addr count) }
 {
     let mut out = Vec::new(alloc);
     match raw(mem, &mut out, addr, count) {
         Ok(()) => Ok(Text::from_vec(out)),
-        Err(MemFault::BadAddr(bad)) => Err(Refusal::Diagnosed(Diagnostic::BadAddress(bad))),
-        Err(MemFault::TooWide) => unreachable!(),
-        Err(MemFault::OutOfMemory) => Err(Refusal::OutOfMemory),
+        Err(fault) => Err(memory_refusal(fault)),
     }
 }
 
@@ -94,7 +101,7 @@ pub fn mdr<P: Peek>(alloc: Global, view: &View<P>, values: Values) -> Result<Tex
 }
 
 /// This many words of eight bytes, with the symbols that they are near.
-#[tactic(auto, unfolding(crate::specs::MemoryDisplay::symbols_text))]
+#[tactic(auto, using(crate::proofs::Displayed::refused), unfolding(crate::specs::MemoryDisplay::symbols_text))]
 fn symbols_text<P: Peek>(
     alloc: Global,
     mem: &P,
@@ -107,9 +114,7 @@ fn symbols_text<P: Peek>(
     let mut out = Vec::new(alloc);
     match syms(mem, names, &mut out, addr, count) {
         Ok(()) => Ok(Text::from_vec(out)),
-        Err(MemFault::BadAddr(bad)) => Err(Refusal::Diagnosed(Diagnostic::BadAddress(bad))),
-        Err(MemFault::TooWide) => unreachable!(),
-        Err(MemFault::OutOfMemory) => Err(Refusal::OutOfMemory),
+        Err(fault) => Err(memory_refusal(fault)),
     }
 }
 
@@ -123,7 +128,7 @@ pub fn mds<P: Peek>(alloc: Global, view: &View<P>, values: Values) -> Result<Tex
 }
 
 /// This many instructions, each on a line.
-#[tactic(auto, unfolding(crate::specs::MemoryDisplay::instructions_text))]
+#[tactic(auto, using(crate::proofs::Displayed::refused), unfolding(crate::specs::MemoryDisplay::instructions_text))]
 fn instructions_text<P: Peek>(
     alloc: Global,
     mem: &P,
@@ -135,9 +140,7 @@ fn instructions_text<P: Peek>(
     let mut out = Vec::new(alloc);
     match insns(mem, &mut out, addr, count) {
         Ok(()) => Ok(Text::from_vec(out)),
-        Err(MemFault::BadAddr(bad)) => Err(Refusal::Diagnosed(Diagnostic::BadAddress(bad))),
-        Err(MemFault::TooWide) => unreachable!(),
-        Err(MemFault::OutOfMemory) => Err(Refusal::OutOfMemory),
+        Err(fault) => Err(memory_refusal(fault)),
     }
 }
 

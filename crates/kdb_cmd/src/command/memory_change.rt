@@ -7,9 +7,9 @@ use crate::Said;
 use crate::desk::Desk;
 use crate::outcomes::stay;
 use hart_ctx::{end_reservations, granule_of};
-use kdb_mem::{MemFault, modify};
-use kdb_table::{Diagnostic, Refusal};
-use kdb_view::Values;
+use kdb_mem::modify;
+use kdb_table::Refusal;
+use kdb_view::{Values, memory_refusal};
 use mach_base::{Peek, Text};
 
 /// The granule of the last of this many bytes from an address on.
@@ -21,7 +21,7 @@ fn last_granule(addr: u64, width: u8) -> u64
 }
 
 /// Writes a value in so many bytes from an address on.
-#[tactic(auto, unfolding(crate::specs::command::MemoryChange::write_answer))]
+#[tactic(auto, using(crate::proofs::Changed::refused), unfolding(crate::specs::command::MemoryChange::write_answer))]
 fn write<P: Peek>(desk: &mut Desk<P>, addr: u64, width: u8, value: u64) -> Result<Said, Refusal>
     requires width { IsWidth width }
     ensures answer { Changes P.memory result desk.old desk.new (λ _. write_answer addr width value) }
@@ -34,9 +34,7 @@ fn write<P: Peek>(desk: &mut Desk<P>, addr: u64, width: u8, value: u64) -> Resul
             end_reservations(desk.ctxs, granule_of(addr), last_granule(addr, width));
             Ok(stay(Text::from_vec(out)))
         }
-        Err(MemFault::BadAddr(bad)) => Err(Refusal::Diagnosed(Diagnostic::BadAddress(bad))),
-        Err(MemFault::TooWide) => Err(Refusal::Diagnosed(Diagnostic::BadNumber(2))),
-        Err(MemFault::OutOfMemory) => Err(Refusal::OutOfMemory),
+        Err(fault) => Err(memory_refusal(fault)),
     }
 }
 
