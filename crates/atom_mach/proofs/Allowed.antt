@@ -52,14 +52,6 @@ pub can_be_late-sitting : (s : State) (m : Hart) (late : ℕ) → can_be_late s 
 can_be_late-sitting s m late e = search rules
 
 -- no session opens beside one with late harts
-pub opening_free : (mode : Mode) (s : Machine) (m late : ℕ) (reason : Reason) (current : ℕ) → opening_reason mode s m late ≡ Some reason → IsGathered mode current
-opening_free Free s m late reason current e = tt
-opening_free (Hold k was) s m late reason current e = absurd (cc)
-opening_free (Pass k was again) s m late reason current e = tt
-opening_free (Back k was) s m late reason current e = tt
-opening_free (Leave k was) s m late reason current e = tt
-opening_free (Over ending) s m late reason current e = tt
-
 pub opening_reads : (mode : Mode) (s : Machine) (m late : ℕ) (reason : Reason) (read_with : ℕ) → opening_reason mode s m late ≡ Some reason → ReadsWith mode read_with
 opening_reads Free s m late reason read_with e = tt
 opening_reads (Hold k was) s m late reason read_with e = absurd (cc)

@@ -1,5 +1,5 @@
 -- What tests and options come to.
-use Rattle.std.proofs.Common.{◌≡◌, ◌&&◌, ◌||◌, Bool, true, false, not, cond, Option, Some, None, is_none, refl}
+use Rattle.std.proofs.Common.{◌≡◌, ◌&&◌, ◌||◌, Bool, true, false, not, cond, Option, Some, None, is_some, is_none, refl, sym}
 use Rattle.std.proofs.lemmas.Bool.{false≢true}
 
 pub cond_true : {A : Type 0} (b : Bool) (x y : A) → b ≡ true → cond b x y ≡ x
@@ -11,6 +11,13 @@ cond_false b x y e = rw e refl
 pub and_true : (a b : Bool) → (a && b) ≡ true → (a ≡ true) × (b ≡ true)
 and_true true b e = (refl, e)
 and_true false b e = absurd (cc)
+
+pub both : (a b : Bool) → a ≡ true → b ≡ true → (a && b) ≡ true
+both a b p q = rw (p, q) refl
+
+pub neither : (a b : Bool) → (a || b) ≡ false → (a ≡ false) × (b ≡ false)
+neither true b e = absurd (false≢true (sym e))
+neither false b e = (refl, e)
 
 pub and_false : (a : Bool) → (a && false) ≡ false
 and_false true = refl
@@ -33,6 +40,10 @@ either_case false b e f g = g e
 pub is_none-None : {A : Type 0} (o : Option A) → is_none o ≡ true → o ≡ None
 is_none-None None e = refl
 is_none-None (Some x) e = absurd (false≢true e)
+
+pub is_some-None : {A : Type 0} (o : Option A) → is_some o ≡ false → o ≡ None
+is_some-None None e = refl
+is_some-None (Some x) e = absurd (false≢true (sym e))
 
 -- what is allowed, by its test
 pub taken : {A : Type 0} (b : Bool) (x d : A) → cond b (Some x) None ≡ Some d → (b ≡ true) × (x ≡ d)

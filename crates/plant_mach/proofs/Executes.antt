@@ -14,7 +14,7 @@ use Rattle.atom_mach.specs.Traps.{fault_of, executed, console_text, interrupted}
 use Rattle.atom_mach.specs.Modes.{runs, mode_after}
 use Rattle.atom_mach.specs.Session.{is_hart}
 use Rattle.atom_mach.specs.Step.{may_run, may_pass, may_take, trap_in, does}
-use Rattle.atom_mach.proofs.Booleans.{cond_true, and_true, not_is, either_case}
+use Rattle.atom_mach.proofs.Booleans.{cond_true, and_true, both, not_is, either_case}
 use Rattle.plant_mach.specs.Machine.{PlantedMachine, is_held, mode_at, mode_in_session}
 use Rattle.plant_mach.specs.Entries.{raw_fetched, is_ebreak, faults, may_run as may_run_here, may_pass as may_pass_here, may}
 use Rattle.plant_mach.specs.Order.{IsOrderly}
@@ -28,9 +28,6 @@ pub record IsExecuted (p : PlantedMachine) (h : Hart) : Type 0 where
   pub mode : Mode
   pub shown : mode_in_session p.session ≡ Some mode
   pub done : does (record { machine = p.machine; mode = mode }) (Instr h) ≡ Some (done_as (console_text p.machine h.0) (executed p.machine h.0) (mode_after mode h.0))
-
-both : (a b : Bool) → a ≡ true → b ≡ true → (a && b) ≡ true
-both a b p q = rw (p, q) refl
 
 either_first : (a b : Bool) → a ≡ true → (a || b) ≡ true
 either_first a b p = rw p refl

@@ -1,5 +1,5 @@
 -- Every legal list of entries reads as a run.
-use Rattle.std.proofs.Common.{◌≡◌, ℕ, eqb, ◌==◌, ◌&&◌, Bool, true, false, not, cond, List, [], ◌∷◌, ◌++◌, append_assoc, Option, Some, None, is_none, option_map, refl, sym, ap, subst, ◌∙◌}
+use Rattle.std.proofs.Common.{◌≡◌, ℕ, ◌==◌, ◌&&◌, Bool, true, not, cond, List, [], ◌∷◌, ◌++◌, append_assoc, Option, Some, None, is_none, option_map, refl, sym, ap, subst, ◌∙◌}
 use Rattle.std.proofs.lemmas.Bool.{false≢true, eq-eqb}
 use Rattle.mach_base.specs.Machine.{Machine, Symbol}
 use Rattle.mach_base.specs.Texts.{newline}
@@ -32,7 +32,7 @@ use Rattle.plant_mach.proofs.Settled.{done_as, one_more, settle}
 use Rattle.plant_mach.proofs.Shown.{shown-session}
 use Rattle.plant_mach.proofs.Agreeing.{Agrees, made_as, append-nothing, agrees-run, agrees-step}
 use Rattle.plant_mach.proofs.ReadSteps.{reads-Step, reads-Intr, reads-Send, reads-Take, reads-Pull, reads-PlantStep, reads-PullStep, reads-Plant}
-use Rattle.plant_mach.proofs.ReadSessions.{reads-Open, reads-Line, reads-Close}
+use Rattle.plant_mach.proofs.ReadSessions.{held-in, reads-Open, reads-Line, reads-Close}
 use Rattle.plant_mach.proofs.Ordered.{entries_keep_order, starts_are_orderly}
 
 -- Endings.
@@ -51,22 +51,11 @@ free-done s PlanEnd e f = absurd (false≢true f)
 script-read : (start : State) (steps : List _) (at : Option CutAt) (flag : Bool) (text : List ℕ) (p : PlantedMachine) (s : Sitting) → Agrees start (record { steps = steps; cut = at; late = flag }) (made_as text p) →
     p.ending ≡ None → p.session ≡ Some s → s.stage ≡ stage.Lines → p.machine.unread ≡ [] →
     Agrees start (with_script_end at (record { steps = steps; cut = at; late = flag })) (made_as (text ++ (prompt_text p.machine ++ newline)) (record p { ending = Some ScriptEnd }))
-script-read start steps None flag text p s a ending is lines none = by_late (eqb s.late 0) refl
-  where
-    shown : mode_shown p ≡ mode_at s.master s.late stage.Lines
-    shown = shown-session p ending ∙ ap mode_in_session is ∙ ap (mode_at s.master s.late) lines
-
-    by_late : (b : Bool) → eqb s.late 0 ≡ b → Agrees start (record { steps = steps ++ (Off ScriptEnd ∷ []); cut = None; late = flag }) (made_as (text ++ (prompt_text p.machine ++ newline)) (record p { ending = Some ScriptEnd }))
-    by_late true e =
-        let nothing : mode_at s.master s.late stage.Lines ≡ None = ap (λ b. cond b None (Some (Hold s.master s.late))) e in
-        let some = a.reading.stands.2 ∙ shown ∙ nothing in
-        absurd (cc)
-    by_late false e =
-        let held : mode_at s.master s.late stage.Lines ≡ Some (Hold s.master s.late) = ap (λ b. cond b None (Some (Hold s.master s.late))) e in
-        let run = settle start (record { steps = steps; cut = None; late = flag }) (made_as text p) (Hold s.master s.late) a.reading (shown ∙ held) in
-        let done = script-done (record { machine = p.machine; mode = Hold s.master s.late }) s.master s.late refl none in
-        agrees-run start (steps ++ (Off ScriptEnd ∷ [])) flag (text ++ (prompt_text p.machine ++ newline)) (record p { ending = Some ScriptEnd }) p.machine (Over ScriptEnd)
-        (one_more start steps text (prompt_text p.machine ++ newline) p.machine p.machine (Hold s.master s.late) (Over ScriptEnd) (Off ScriptEnd) run done) refl refl a.late
+script-read start steps None flag text p s a ending is lines none =
+    let held = held-in start steps flag text p s a ending is lines in
+    let done = script-done (record { machine = p.machine; mode = Hold s.master s.late }) s.master s.late refl none in
+    agrees-run start (steps ++ (Off ScriptEnd ∷ [])) flag (text ++ (prompt_text p.machine ++ newline)) (record p { ending = Some ScriptEnd }) p.machine (Over ScriptEnd)
+    (one_more start steps text (prompt_text p.machine ++ newline) p.machine p.machine (Hold s.master s.late) (Over ScriptEnd) (Off ScriptEnd) held.run done) refl refl a.late
 script-read start steps (Some at) flag text p s a ending is lines none =
     let (c, cut, whole, machine, left) = a.reading.stands in
     let (t, seated, master, zero) = a.cut in

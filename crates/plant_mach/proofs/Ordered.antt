@@ -9,6 +9,7 @@ use Rattle.mach_base.specs.Masks.{has_bit}
 use Rattle.mach_base.specs.declared.limits.TheConstants.{PLACES}
 use Rattle.mach_base.specs.declared.event.Hart.{Hart}
 use Rattle.mach_base.specs.declared.event.Fault.{Fault}
+use Rattle.mach_base.specs.declared.event.Ending.{Ending}
 use Rattle.mach_base.specs.declared.event.Entry.{Entry}
 use Rattle.mach_base.specs.declared.event.Entry.TheVariants as entry
 use Rattle.img_text.specs.Boot.{first_context}
@@ -37,10 +38,10 @@ use Rattle.atom_mach.proofs.Booleans.{and_true, not_is, is_none-None, taken}
 use Rattle.atom_mach.proofs.StartWithin.{debugger_within}
 use Rattle.atom_mach.proofs.Kept.{executed_kept, interrupted_kept, entered_kept, line_kept}
 use Rattle.plant_mach.specs.Machine.{PlantedMachine, planted_start, memory_in, planted_at, enabled_at, enabled_address, planted_of, enabled_of}
-use Rattle.plant_mach.specs.Entries.{Made, after_pass, after_step, opened_for, has_line, stage_after, line_made, read_in, step_address, text_elsewhere, may, effect, makes}
+use Rattle.plant_mach.specs.Entries.{Made, after_pass, after_step, opened_for, stage_after, line_made, step_address, text_elsewhere, may, effect, makes}
 use Rattle.plant_mach.specs.Order.{IsSeated, StepFits, StepFitsStage, PlacesFitStage, SessionFits, IsOrderly}
 use Rattle.plant_mach.specs.Laws.{EntriesKeepOrder, StartsAreOrderly}
-use Rattle.plant_mach.proofs.Sessions.{IsOpen, in_session-open, is_lines-Lines, is_leaving-Leaving, is_pass-Pass}
+use Rattle.plant_mach.proofs.Sessions.{IsOpen, in_session-open, reads_line, is_lines-Lines, is_leaving-Leaving, is_pass-Pass}
 use Rattle.plant_mach.proofs.Opens.{open-opened}
 use Rattle.plant_mach.proofs.Executes.{step-right}
 use Rattle.plant_mach.proofs.Lines.{line_keeps_faults}
@@ -127,7 +128,7 @@ keeps-Step p h o e =
       calls = o.calls ∙ sym kept.harts;
     }
 
--- Entries that change the machine's contexts, calls or places alone.
+-- Entries that change the machine's contexts, calls or ending alone.
 
 session-same : (session : Option Sitting) (p next : PlantedMachine) → next.machine.opened ≡ p.machine.opened → planted_of next ≡ planted_of p → SessionFits session p → SessionFits session next
 session-same None p next opened planted fits = tt
@@ -149,8 +150,8 @@ keeps-Intr p h o =
       calls = o.calls ∙ sym kept.harts;
     }
 
-with_calls : (p : PlantedMachine) (h : ℕ) (b : Bool) → IsOrderly p → IsOrderly (record p { calls = slice_set p.calls h b })
-with_calls p h b o = record {
+with_calls : (p : PlantedMachine) (calls : List Bool) (ending : Option Ending) → length calls ≡ length p.calls → IsOrderly p → IsOrderly (record p { calls = calls; ending = ending })
+with_calls p calls ending count o = record {
   limits = o.limits;
   text = o.text;
   words = o.words;
@@ -159,8 +160,11 @@ with_calls p h b o = record {
   seated = o.seated;
   step = o.step;
   session = session-same p.session p _ refl refl o.session;
-  calls = length-set p.calls h b ∙ o.calls;
+  calls = count ∙ o.calls;
 }
+
+keeps-call : (p : PlantedMachine) (h : ℕ) (b : Bool) → IsOrderly p → IsOrderly (record p { calls = slice_set p.calls h b })
+keeps-call p h b o = with_calls p (slice_set p.calls h b) p.ending (length-set p.calls h b) o
 
 -- Openings.
 
@@ -239,15 +243,8 @@ unfolding effect may
 keeps-Line p h o e =
     let b = and_true _ _ e in
     let c = and_true (planted_of p == 0) _ b.1 in
-    let found = in_session-open (λ s. is_of h.0 s && is_lines s.stage) p.session b.0 in
-    let s = found.sitting in
-    by_unread s found.is (is_lines-Lines s.stage (and_true (is_of h.0 s) _ found.passes).1) (eqb-true (planted_of p) 0 c.0) p.machine.unread refl c.1
-  where
-    by_unread : (s : Sitting) → p.session ≡ Some s → s.stage ≡ stage.Lines → planted_of p ≡ 0 → (unread : List (List ℕ)) → p.machine.unread ≡ unread → has_line unread ≡ true → IsOrderly (read_in p.session p.machine.unread p).next
-    by_unread s is lines none [] unread f = absurd (false≢true f)
-    by_unread s is lines none (line ∷ rest) unread f =
-        let made = ap (λ session. read_in session p.machine.unread p) is ∙ ap (λ u. read_in (Some s) u p) unread in
-        subst (λ (d : Made). IsOrderly d.next) (sym made) (keeps-line p s line rest o is lines none unread)
+    let r = reads_line p h.0 b.0 c.1 in
+    subst (λ (d : Made). IsOrderly d.next) (sym r.made) (keeps-line p r.sitting r.line r.rest o r.is r.lines (eqb-true (planted_of p) 0 c.0) r.unread)
 
 -- What is planted and pulled.
 
@@ -435,19 +432,9 @@ keeps-Close p h o e =
         let there : is_some (planted_at p i) ≡ true = sym (planted-bit p.places PLACES i lt) ∙ ap (λ m. has_bit m i) same ∙ enabled-bit p.machine.seen.places PLACES i lt ∙ ap is_some f in
         same_address i addr f (planted_at p i) refl there
 
-keeps-Off : (p : PlantedMachine) (ending : _) → IsOrderly p → IsOrderly (effect p (entry.Off ending)).next
+keeps-Off : (p : PlantedMachine) (ending : Ending) → IsOrderly p → IsOrderly (effect p (entry.Off ending)).next
 unfolding effect
-keeps-Off p ending o = record {
-  limits = o.limits;
-  text = o.text;
-  words = o.words;
-  enabled = o.enabled;
-  whole = o.whole;
-  seated = o.seated;
-  step = o.step;
-  session = session-same p.session p _ refl refl o.session;
-  calls = o.calls;
-}
+keeps-Off p ending o = with_calls p p.calls (Some ending) refl o
 
 -- Entries.
 
@@ -455,8 +442,8 @@ effect_keeps : (p : PlantedMachine) (e : Entry) → IsOrderly p → may p e ≡ 
 unfolding effect
 effect_keeps p (entry.Step h) o e = keeps-Step p h o e
 effect_keeps p (entry.Intr h) o e = keeps-Intr p h o
-effect_keeps p (entry.Send h) o e = with_calls p h.0 true o
-effect_keeps p (entry.Take h) o e = with_calls p h.0 false o
+effect_keeps p (entry.Send h) o e = keeps-call p h.0 true o
+effect_keeps p (entry.Take h) o e = keeps-call p h.0 false o
 effect_keeps p (entry.Open m late) o e = keeps-Open p m late o e
 effect_keeps p (entry.Pull i) o e = keeps-Pull p i o e
 effect_keeps p (entry.Line h) o e = keeps-Line p h o e

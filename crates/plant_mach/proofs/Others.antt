@@ -1,6 +1,6 @@
 -- Lists of entries, entries that are never legal, and what entries keep.
 use Rattle.std.proofs.Common.{◌≡◌, ◌≢◌, ℕ, ◌≤◌, eqb, ◌&&◌, Bool, true, false, List, [], ◌∷◌, ◌++◌, append_assoc, Option, Some, None, is_none, option_map, refl, sym, ap, subst, ◌∙◌, arith}
-use Rattle.std.proofs.lemmas.Bool.{false≢true, eqb-true, eq-eqb, ltb-true, lt-ltb}
+use Rattle.std.proofs.lemmas.Bool.{false≢true, eq-eqb, ltb-true, lt-ltb}
 use Rattle.mach_base.specs.declared.event.Hart.{Hart}
 use Rattle.mach_base.specs.declared.event.Ending.{Ending}
 use Rattle.mach_base.specs.declared.event.Ending.TheVariants.{PlanEnd}
@@ -8,7 +8,7 @@ use Rattle.mach_base.specs.declared.event.Entry.{Entry}
 use Rattle.mach_base.specs.declared.event.Entry.TheVariants.{Step, Intr, Send, Take, Open, Pull, Line, Plant, PlantStep, PullStep, Close, Off}
 use Rattle.hart_ctx.specs.Context.{IsUnmoved}
 use Rattle.deck_core.specs.declared.plain.notes.Sitting.{Sitting}
-use Rattle.deck_core.specs.contract.Allowed.{is_of, is_lines, is_leaving}
+use Rattle.deck_core.specs.contract.Allowed.{is_lines, is_leaving}
 use Rattle.atom_mach.specs.State.{hart_count, context_at}
 use Rattle.atom_mach.specs.Session.{is_hart}
 use Rattle.atom_mach.specs.Limits.{IsKept}
@@ -17,9 +17,9 @@ use Rattle.atom_mach.proofs.Frame.{IsUnmoved-same, instructions_leave, interrupt
 use Rattle.atom_mach.proofs.Kept.{IsKept-same, executed_kept, interrupted_kept, entered_kept, line_kept}
 use Rattle.plant_mach.specs.Machine.{PlantedMachine}
 use Rattle.plant_mach.specs.Entries.{Made, can_sit, opened_for, reason_now, read_in, may, effect, makes, prefixed, then_made, made_by}
-use Rattle.plant_mach.specs.Order.{IsSeated, IsOrderly}
+use Rattle.plant_mach.specs.Order.{IsOrderly}
 use Rattle.plant_mach.specs.Laws.{ListsJoin, hart_named, NeverLegal, is_own, EntriesLeaveOthers, EntriesKeep}
-use Rattle.plant_mach.proofs.Sessions.{in_session-open}
+use Rattle.plant_mach.proofs.Sessions.{master_there}
 use Rattle.plant_mach.proofs.Executes.{step-right}
 
 -- Lists.
@@ -72,20 +72,16 @@ named p (Open m late) h o is e =
     ap (is_hart p.machine) (sym same) ∙ (and_true (is_hart p.machine m.0) _ sits).0
 named p (Pull i) h o is e = absurd (cc)
 named p (Line k) h o is e =
-    let found = in_session-open (λ s. is_of k.0 s && is_lines s.stage) p.session (and_true _ _ e).0 in
-    let own = eqb-true found.sitting.master.0 k.0 (and_true (is_of k.0 found.sitting) _ found.passes).0 in
     let same : k.0 ≡ h = cc in
-    let seated = (subst (IsSeated (hart_count p.machine)) found.is o.seated).master in
-    ap (is_hart p.machine) (sym same) ∙ ap (is_hart p.machine) (sym own) ∙ lt-ltb _ _ seated
+    let there = master_there p.session (hart_count p.machine) k.0 (λ s. is_lines s.stage) o.seated (and_true _ _ e).0 in
+    ap (is_hart p.machine) (sym same) ∙ lt-ltb k.0 (hart_count p.machine) there
 named p (Plant i) h o is e = absurd (cc)
 named p (PlantStep addr) h o is e = absurd (cc)
 named p PullStep h o is e = absurd (cc)
 named p (Close k) h o is e =
-    let found = in_session-open (λ s. is_of k.0 s && is_leaving s.stage) p.session (and_true _ _ e).0 in
-    let own = eqb-true found.sitting.master.0 k.0 (and_true (is_of k.0 found.sitting) _ found.passes).0 in
     let same : k.0 ≡ h = cc in
-    let seated = (subst (IsSeated (hart_count p.machine)) found.is o.seated).master in
-    ap (is_hart p.machine) (sym same) ∙ ap (is_hart p.machine) (sym own) ∙ lt-ltb _ _ seated
+    let there = master_there p.session (hart_count p.machine) k.0 (λ s. is_leaving s.stage) o.seated (and_true _ _ e).0 in
+    ap (is_hart p.machine) (sym same) ∙ lt-ltb k.0 (hart_count p.machine) there
 named p (Off ending) h o is e = absurd (cc)
 
 no_hart : (p : PlantedMachine) (e : Entry) (h : ℕ) → IsOrderly p → hart_named e ≡ Some h → hart_count p.machine ≤ h → makes p e ≡ None

@@ -7,28 +7,26 @@ use Rattle.mach_base.specs.declared.event.Hart.{Hart}
 use Rattle.mach_base.specs.declared.event.Entry.TheVariants as entry
 use Rattle.deck_core.specs.declared.plain.notes.Sitting.{Sitting}
 use Rattle.deck_core.specs.declared.plain.notes.Stage.TheVariants as stage
-use Rattle.deck_core.specs.contract.Allowed.{is_of, is_lines, is_leaving}
+use Rattle.deck_core.specs.contract.Allowed.{is_of, is_leaving}
 use Rattle.atom_mach.specs.declared.step.Mode.{Mode}
 use Rattle.atom_mach.specs.declared.step.Mode.TheVariants.{Free, Hold, Leave}
+use Rattle.atom_mach.specs.declared.step.AStep.{AStep}
 use Rattle.atom_mach.specs.declared.step.AStep.TheVariants.{Enter, Line, End}
 use Rattle.atom_mach.specs.State.{State}
 use Rattle.atom_mach.specs.Modes.{after_go}
 use Rattle.atom_mach.specs.Session.{Cut, before_cut, is_hart, opening_reason, session_opening, with_read, line_effect, cut_session}
 use Rattle.atom_mach.specs.Step.{does, can_be_late, held_for}
 use Rattle.atom_mach.specs.Run.{CutAt}
-use Rattle.atom_mach.proofs.Booleans.{cond_true, and_true}
+use Rattle.atom_mach.proofs.Booleans.{cond_true, and_true, both}
 use Rattle.atom_mach.proofs.Cuts.{cuts_begin, cuts_grow}
 use Rattle.plant_mach.specs.Machine.{PlantedMachine, mode_at, mode_in_session, mode_shown, planted_of}
-use Rattle.plant_mach.specs.Entries.{can_sit, opened_for, has_line, stage_after, line_made, read_in, may, effect}
+use Rattle.plant_mach.specs.Entries.{can_sit, opened_for, stage_after, line_made, may, effect}
 use Rattle.plant_mach.specs.Reading.{Reading, settled, with_opening, with_line_in, with_closing, with_entry}
-use Rattle.plant_mach.proofs.Sessions.{in_session-open, is_lines-Lines, is_leaving-Leaving}
+use Rattle.plant_mach.proofs.Sessions.{in_session-open, reads_line, is_leaving-Leaving}
 use Rattle.plant_mach.proofs.Settled.{RunsTo, done_as, one_more, settle}
 use Rattle.plant_mach.proofs.Shown.{shown-session}
 use Rattle.plant_mach.proofs.Opens.{IsOpened, open-opened, left-shown}
 use Rattle.plant_mach.proofs.Agreeing.{Agrees, made_as, LateFits, append-nothing, settled-is, agrees-run}
-
-both : (a b : Bool) → a ≡ true → b ≡ true → (a && b) ≡ true
-both a b p q = rw (p, q) refl
 
 -- Openings.
 
@@ -107,33 +105,42 @@ line-done s m late line rest e f = rw (e, f) refl
 same_sitting : (session : Option Sitting) (s t : Sitting) → session ≡ Some s → session ≡ Some t → t ≡ s
 same_sitting session s t e f = let q : Some t ≡ Some s = sym f ∙ e in cc
 
-line-read : (start : State) (steps : List _) (at : Option CutAt) (flag : Bool) (text : List ℕ) (p : PlantedMachine) (s : Sitting) (line : List ℕ) (rest : List (List ℕ)) → Agrees start (record { steps = steps; cut = at; late = flag }) (made_as text p) →
-    p.ending ≡ None → p.session ≡ Some s → s.stage ≡ stage.Lines → p.machine.unread ≡ line ∷ rest →
-    Agrees start (with_line_in at (record { steps = steps; cut = at; late = flag })) (made_as (text ++ (line_effect s.master s.late line (with_read p.machine rest)).text) (line_made p s (line_effect s.master s.late line (with_read p.machine rest))).next)
-line-read start steps None flag text p s line rest a ending is lines unread = by_late (eqb s.late 0) refl
+-- a session in which lines are read, beside a run that isn't cut off, is held with late harts
+pub record IsHeldIn (start : State) (steps : List AStep) (text : List ℕ) (p : PlantedMachine) (s : Sitting) : Type 0 where
+  pub mode : mode_at s.master s.late stage.Lines ≡ Some (Hold s.master s.late)
+  pub run : RunsTo start steps text p.machine (Hold s.master s.late)
+
+pub held-in : (start : State) (steps : List AStep) (flag : Bool) (text : List ℕ) (p : PlantedMachine) (s : Sitting) → Agrees start (record { steps = steps; cut = None; late = flag }) (made_as text p) →
+    p.ending ≡ None → p.session ≡ Some s → s.stage ≡ stage.Lines → IsHeldIn start steps text p s
+held-in start steps flag text p s a ending is lines = by_late (eqb s.late 0) refl
   where
-    c : Cut
-    c = line_effect s.master s.late line (with_read p.machine rest)
-
-    next : PlantedMachine
-    next = (line_made p s c).next
-
     shown : mode_shown p ≡ mode_at s.master s.late stage.Lines
     shown = shown-session p ending ∙ ap mode_in_session is ∙ ap (mode_at s.master s.late) lines
 
-    by_late : (b : Bool) → eqb s.late 0 ≡ b → Agrees start (record { steps = steps ++ (Line ∷ []); cut = None; late = flag }) (made_as (text ++ c.text) next)
+    by_late : (b : Bool) → eqb s.late 0 ≡ b → IsHeldIn start steps text p s
     by_late true e =
         let none : mode_at s.master s.late stage.Lines ≡ None = ap (λ b. cond b None (Some (Hold s.master s.late))) e in
         let some = a.reading.stands.2 ∙ shown ∙ none in
         absurd (cc)
     by_late false e =
         let held : mode_at s.master s.late stage.Lines ≡ Some (Hold s.master s.late) = ap (λ b. cond b None (Some (Hold s.master s.late))) e in
-        let run = settle start (record { steps = steps; cut = None; late = flag }) (made_as text p) (Hold s.master s.late) a.reading (shown ∙ held) in
-        let mode = unwrap_or c.left (Hold s.master s.late) in
-        let done = line-done (record { machine = p.machine; mode = Hold s.master s.late }) s.master s.late line rest refl unread in
-        agrees-run start (steps ++ (Line ∷ [])) flag (text ++ c.text) next c.machine mode
-        (one_more start steps text c.text p.machine c.machine (Hold s.master s.late) mode Line run done)
-        refl (shown-session next ending ∙ held_left s.master s.late line (with_read p.machine rest) c.left refl held) (subst (λ session. LateFits session flag) is a.late)
+        record {
+          mode = held;
+          run = settle start (record { steps = steps; cut = None; late = flag }) (made_as text p) (Hold s.master s.late) a.reading (shown ∙ held);
+        }
+
+line-read : (start : State) (steps : List _) (at : Option CutAt) (flag : Bool) (text : List ℕ) (p : PlantedMachine) (s : Sitting) (line : List ℕ) (rest : List (List ℕ)) → Agrees start (record { steps = steps; cut = at; late = flag }) (made_as text p) →
+    p.ending ≡ None → p.session ≡ Some s → s.stage ≡ stage.Lines → p.machine.unread ≡ line ∷ rest →
+    Agrees start (with_line_in at (record { steps = steps; cut = at; late = flag })) (made_as (text ++ (line_effect s.master s.late line (with_read p.machine rest)).text) (line_made p s (line_effect s.master s.late line (with_read p.machine rest))).next)
+line-read start steps None flag text p s line rest a ending is lines unread =
+    let held = held-in start steps flag text p s a ending is lines in
+    let c = line_effect s.master s.late line (with_read p.machine rest) in
+    let next = (line_made p s c).next in
+    let mode = unwrap_or c.left (Hold s.master s.late) in
+    let done = line-done (record { machine = p.machine; mode = Hold s.master s.late }) s.master s.late line rest refl unread in
+    agrees-run start (steps ++ (Line ∷ [])) flag (text ++ c.text) next c.machine mode
+    (one_more start steps text c.text p.machine c.machine (Hold s.master s.late) mode Line held.run done)
+    refl (shown-session next ending ∙ held_left s.master s.late line (with_read p.machine rest) c.left refl held.mode) (subst (λ session. LateFits session flag) is a.late)
 line-read start steps (Some at) flag text p s line rest a ending is lines unread =
     let (c0, cut, whole, machine, left) = a.reading.stands in
     let (t, seated, master, none) = a.cut in
@@ -160,19 +167,9 @@ line-read start steps (Some at) flag text p s line rest a ending is lines unread
 pub reads-Line : (start : State) (r : Reading) (text : List ℕ) (p : PlantedMachine) (h : Hart) → Agrees start r (made_as text p) → p.ending ≡ None → may p (entry.Line h) ≡ true → Agrees start (with_entry r (entry.Line h)) (made_as (text ++ (effect p (entry.Line h)).text) (effect p (entry.Line h)).next)
 unfolding effect may
 reads-Line start r text p h a ending e =
-    let test : Sitting → Bool = λ s. is_of h.0 s && is_lines s.stage in
     let b = and_true _ _ e in
-    let found = in_session-open test p.session b.0 in
-    let s = found.sitting in
-    let lines = is_lines-Lines s.stage (and_true (is_of h.0 s) _ found.passes).1 in
-    by_unread s found.is lines p.machine.unread refl (and_true (planted_of p == 0) _ b.1).1
-  where
-    by_unread : (s : Sitting) → p.session ≡ Some s → s.stage ≡ stage.Lines → (unread : List (List ℕ)) → p.machine.unread ≡ unread → has_line unread ≡ true →
-        Agrees start (with_line_in r.cut r) (made_as (text ++ (read_in p.session p.machine.unread p).text) (read_in p.session p.machine.unread p).next)
-    by_unread s is lines [] unread f = absurd (false≢true f)
-    by_unread s is lines (line ∷ rest) unread f =
-        let made = ap (λ session. read_in session p.machine.unread p) is ∙ ap (λ u. read_in (Some s) u p) unread in
-        subst (λ d. Agrees start (with_line_in r.cut r) (made_as (text ++ d.text) d.next)) (sym made) (line-read start r.steps r.cut r.late text p s line rest a ending is lines unread)
+    let l = reads_line p h.0 b.0 (and_true (planted_of p == 0) _ b.1).1 in
+    subst (λ d. Agrees start (with_line_in r.cut r) (made_as (text ++ d.text) d.next)) (sym l.made) (line-read start r.steps r.cut r.late text p l.sitting l.line l.rest a ending l.is l.lines l.unread)
 
 -- Closings.
 

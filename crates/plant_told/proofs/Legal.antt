@@ -22,7 +22,7 @@ use Rattle.deck_core.specs.contract.Allowed.{in_session, is_of, is_lines, is_pas
 use Rattle.atom_mach.specs.State.{hart_count, context_at}
 use Rattle.atom_mach.specs.Traps.{fault_of, next_pc, trap}
 use Rattle.atom_mach.specs.Session.{is_hart}
-use Rattle.atom_mach.proofs.Booleans.{and_true, not_is}
+use Rattle.atom_mach.proofs.Booleans.{and_true, both, not_is}
 use Rattle.plant_mach.specs.Machine.{PlantedMachine, planted_at, enabled_at, planted_of, enabled_of}
 use Rattle.plant_mach.specs.Entries.{faults, can_sit, reason_again, reason_in, reason_now, has_line, step_address, text_elsewhere, is_step_ready, may_run, may_pass, may_pull_step, may}
 use Rattle.plant_mach.specs.Order.{IsOrderly, IsSeated, SessionFits}
@@ -30,9 +30,6 @@ use Rattle.plant_mach.proofs.Sessions.{IsOpen, in_session-open, is_pass-Pass}
 use Rattle.plant_mach.proofs.Places.{bit-within, planted-bit, enabled-bit}
 use Rattle.plant_told.specs.Told.{Counted, address_of, next_in, plantable_in, traps_of, faults_of, told_of}
 use Rattle.plant_told.specs.Laws.{IsAwake, IsAwakeAt, IsGoing, IsAllowed, CallsAreLegal}
-
-both : (a b : Bool) → a ≡ true → b ≡ true → (a && b) ≡ true
-both a b p q = rw (p, q) refl
 
 either_second : (a b : Bool) → b ≡ true → (a || b) ≡ true
 either_second true b q = refl

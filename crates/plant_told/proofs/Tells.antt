@@ -1,5 +1,5 @@
 -- What is told after the entry of a call.
-use Rattle.std.proofs.Common.{◌≡◌, ◌≢◌, ℕ, suc, ◌+◌, ◌%◌, ◌<◌, ◌≤◌, eqb, ◌==◌, ◌&&◌, Bool, true, false, not, cond, List, [], ◌∷◌, length, Option, Some, None, is_some, option_map, refl, sym, ap, subst, ◌∙◌, ◌⊎◌, inl, inr, arith}
+use Rattle.std.proofs.Common.{◌≡◌, ◌≢◌, ℕ, suc, ◌+◌, ◌%◌, ◌<◌, ◌≤◌, eqb, ◌==◌, ◌&&◌, Bool, true, false, not, cond, List, ◌∷◌, length, Option, Some, None, is_some, option_map, refl, sym, ap, subst, ◌∙◌, ◌⊎◌, inl, inr, arith}
 use Rattle.std.specs.Prelude.{slice_index_or, slice_set}
 use Rattle.std.proofs.lemmas.Bool.{false≢true, eqb-true, eqb-false, eq-eqb, ltb-true, cases_eq, cases_lt}
 use Rattle.std.proofs.lemmas.List.{get_or-set_same, get_or-set_other}
@@ -32,7 +32,7 @@ use Rattle.atom_mach.proofs.Kept.{executed_kept, interrupted_kept, line_kept}
 use Rattle.plant_mach.specs.Machine.{PlantedMachine, mask_where, planted_at, enabled_at, enabled_mask, planted_of, enabled_of, held_by, held_of, is_held}
 use Rattle.plant_mach.specs.Entries.{Made, faults, after_pass, after_step, has_line, stage_after, line_made, read_in, opened_for, step_address, text_elsewhere, effect}
 use Rattle.plant_mach.specs.Order.{IsSeated, IsOrderly}
-use Rattle.plant_mach.proofs.Sessions.{IsOpen, in_session-open, is_lines-Lines}
+use Rattle.plant_mach.proofs.Sessions.{IsOpen, reads_line, is_lines-Lines}
 use Rattle.plant_mach.proofs.Opens.{IsOpened, open-opened}
 use Rattle.plant_mach.proofs.Places.{bit-past, bit-within, planted-where, planted-bit, enabled-bit}
 use Rattle.plant_told.specs.Told.{Counted, address_of, next_in, plantable_in, mask_of, traps_of, faults_of, told_of}
@@ -188,15 +188,8 @@ line-tells : (c : Counted) (h : Hart) (s : Sitting) → IsGoing c → IsAllowed 
 unfolding told_of effect
 line-tells c h s going e there after_is =
     let a = (allowed (act.Line h) c going e).1 in
-    let found = in_session-open (λ x. is_of h.0 x && is_lines x.stage) c.machine.session (and_true (in_session (λ x. is_of h.0 x && is_lines x.stage) c.machine.session) _ a).0 in
-    by_unread found.sitting found.is c.machine.machine.unread refl there
-  where
-    by_unread : (x : Sitting) → c.machine.session ≡ Some x → (unread : List (List ℕ)) → c.machine.machine.unread ≡ unread → has_line unread ≡ true →
-        told_of (after c (Line h) c.sends false) ≡ line_read s.stage (told_of c) (told_of (after c (Line h) c.sends false))
-    by_unread x is [] unread f = absurd (false≢true f)
-    by_unread x is (line ∷ rest) unread f =
-        let made : read_in c.machine.session c.machine.machine.unread c.machine ≡ line_made c.machine x (line_effect x.master x.late line (with_read c.machine.machine rest)) = ap (λ session. read_in session c.machine.machine.unread c.machine) is ∙ ap (λ u. read_in (Some x) u c.machine) unread in
-        line-made c x line rest s.stage is unread (read_in c.machine.session c.machine.machine.unread c.machine) made (stage_is x s _ _ (ap (λ (d : Made). d.next.session) made) after_is)
+    let l = reads_line c.machine h.0 (and_true (in_session (λ x. is_of h.0 x && is_lines x.stage) c.machine.session) _ a).0 there in
+    line-made c l.sitting l.line l.rest s.stage l.is l.unread (read_in c.machine.session c.machine.machine.unread c.machine) l.made (stage_is l.sitting s _ _ (ap (λ (d : Made). d.next.session) l.made) after_is)
 
 -- Steps of a pass.
 
@@ -277,23 +270,25 @@ module _ (c : Counted) (h : ℕ) (t : Machine) (session : Option Sitting) (kept 
   unfolding told_of moved faults_of
   faults_left k ne = masks-alike (faults moved.machine) (faults c.machine) (hart_count t) (hart_count c.machine.machine) k kept.harts (λ lt. ap is_some (left k ne).fault)
 
+  -- what is told of the master is told alike where the master is another hart
+  of_master : {A : Type 0} (tells : Option Sitting → Machine → A) → tells None t ≡ tells None c.machine.machine → ((s : Sitting) → s.master.0 ≢ h → tells (Some s) t ≡ tells (Some s) c.machine.machine) → in_session (is_of h) c.machine.session ≡ false → tells session t ≡ tells c.machine.session c.machine.machine
+  of_master tells none some other = ap (λ x. tells x t) same ∙ by_session c.machine.session other
+    where
+      by_session : (x : Option Sitting) → in_session (is_of h) x ≡ false → tells x t ≡ tells x c.machine.machine
+      by_session None e = none
+      by_session (Some s) e = some s (eqb-false s.master.0 h e)
+
   next_left : in_session (is_of h) (told_of c).session ≡ false → (told_of moved).next ≡ (told_of c).next
   unfolding told_of moved
-  next_left other = ap (λ x. next_in x t) same ∙ by_session c.machine.session other
-    where
-      by_session : (x : Option Sitting) → in_session (is_of h) x ≡ false → next_in x t ≡ next_in x c.machine.machine
-      by_session None e = refl
-      by_session (Some s) e = ap address_of (left s.master.0 (eqb-false s.master.0 h e)).next
+  next_left other = of_master next_in refl (λ s ne. ap address_of (left s.master.0 ne).next) other
 
   plantable_left : in_session (is_of h) (told_of c).session ≡ false → (told_of moved).plantable ≡ (told_of c).plantable
   unfolding told_of moved
-  plantable_left other = ap (λ x. plantable_in x t) same ∙ by_session c.machine.session other
-    where
-      by_session : (x : Option Sitting) → in_session (is_of h) x ≡ false → plantable_in x t ≡ plantable_in x c.machine.machine
-      by_session None e = refl
-      by_session (Some s) e =
-          let l = left s.master.0 (eqb-false s.master.0 h e) in
-          ap is_some (text-alike c.machine.machine t (context_at c.machine.machine s.master.0).pc (context_at t s.master.0).pc (next_pc c.machine.machine s.master.0) (next_pc t s.master.0) kept.segments (ap (λ (x : Context). x.pc) l.context.same) l.next)
+  plantable_left other =
+      of_master plantable_in refl
+      (λ s ne.
+      let l = left s.master.0 ne in
+      ap is_some (text-alike c.machine.machine t (context_at c.machine.machine s.master.0).pc (context_at t s.master.0).pc (next_pc c.machine.machine s.master.0) (next_pc t s.master.0) kept.segments (ap (λ (x : Context). x.pc) l.context.same) l.next)) other
 
   tells_of_one : TellsOfOne h (told_of c) (told_of moved)
   tells_of_one = record { told = told; traps = traps_left; faults = faults_left; next = next_left; plantable = plantable_left }

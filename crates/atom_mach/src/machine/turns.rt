@@ -43,18 +43,6 @@ impl Core {
         if self.go_on(out)? {
             return Ok(());
         }
-        self.first_step(out)
-    }
-
-    /// The same, step by step.
-    fn first_step(&mut self, out: &mut Vec<u8>) -> Result<(), OutOfMemory>
-        requires empty { out.old.items ≡ [] }
-        requires one_hart { vec_len self.old.contexts ≡ 1 }
-        requires running { ending_of self.old.mode ≡ None }
-        ensures step { OnOk result (Turns (state_of self.old) out.new.items (state_of self.new)) }
-        ensures less { OnOk result (work_left (state_of self.new) < work_left (state_of self.old)) }
-        ensures harts { OnOk result (vec_len self.new.contexts ≡ vec_len self.old.contexts) }
-    {
         if self.try_step(out, AStep::Intr(HART))? {
             return Ok(());
         }

@@ -27,10 +27,5 @@ returns-clause-step c =
     (Instr (record { 0 = 0 }), made.0, made.1 ∙ ap (λ bytes. Some (record { text = bytes; next = state_of c.execute_word.new.self })) (sym text))
 
 pub returns-clause-less : goal.returns-clause-less
-returns-clause-less c told =
-    let s = state_of c.args.self.now in
-    let did = c.in-Some-execute_word.ensures in
-    let next : IsNext s c.in-Some.word = c.in-Some.ensures in
-    let some : 0 < hart_count s.machine = omega (arith, c.requires.one_hart, c.args.self.now.contexts.ok.0) in
-    let made = turned s (state_of c.execute_word.new.self) c.in-Some.word next some did.right did.machine (did.mode ∙ sym (stays_free s.mode next.mode)) in
-    less-Instr s _ (alone_of c.args.self.now.contexts.len c.args.self.now.mode c.requires.one_hart c.args.self.now.fits) made.1
+unfolding returns-clause-step
+returns-clause-less c told = less-Instr (state_of c.args.self.now) _ (alone_of c.args.self.now.contexts.len c.args.self.now.mode c.requires.one_hart c.args.self.now.fits) (returns-clause-step c).2
