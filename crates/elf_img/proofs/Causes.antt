@@ -1,5 +1,5 @@
 -- The causes of a whole file, in the order of their five lists.
-use Rattle.std.proofs.Common.{◌≡◌, Bool, true, false, cond, ℕ, length, List, [], ◌∷◌, ◌++◌, Option, Some, None, refl, ◌∙◌}
+use Rattle.std.proofs.Common.{◌≡◌, Bool, true, false, cond, ℕ, length, List, [], ◌∷◌, ◌++◌, Some, None, refl, ◌∙◌}
 use Rattle.elf_img.specs.declared.fault.ElfFault.{ElfFault}
 use Rattle.elf_img.specs.declared.fault.ElfFault.TheVariants.{Bad, TooLarge, OutOfMemory}
 use Rattle.elf_img.specs.Causes.{Cause, first_fault, IsFirst}

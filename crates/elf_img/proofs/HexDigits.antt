@@ -1,5 +1,5 @@
 -- The digits of an address are read as the address.
-use Rattle.std.proofs.Common.{◌≡◌, ℕ, zero, suc, ◌+◌, ◌*◌, ◌/◌, ◌%◌, ◌<◌, ◌≤◌, ◌^◌, ◌&&◌, Bool, true, false, cond, not, eqb, nat_lt, List, [], ◌∷◌, ◌++◌, length, None, Some, Result, Ok, inl, inr, refl, sym, ap, ◌∙◌, subst, arith}
+use Rattle.std.proofs.Common.{◌≡◌, ℕ, zero, suc, ◌*◌, ◌/◌, ◌%◌, ◌<◌, ◌≤◌, ◌^◌, ◌&&◌, Bool, true, false, cond, not, List, [], ◌∷◌, ◌++◌, length, None, Some, Result, Ok, inl, inr, refl, ◌∙◌, subst, arith}
 use Rattle.std.proofs.Math.Nat.{pow-suc}
 use Rattle.std.proofs.lemmas.Bool.{ne_eqb, lt-ltb, le-leb, cases_lt}
 use Rattle.std.proofs.lemmas.Str.{digit_value-digit_char}
@@ -10,7 +10,7 @@ use Rattle.std.specs.Str.Parse.{AllDigits, digits_value}
 use Rattle.std.specs.Prelude.{nat_le}
 use Rattle.std.specs.Result.{result_ok}
 use Rattle.mach_base.specs.declared.number.NumFault.{NumFault}
-use Rattle.mach_base.specs.Number.{has_prefix, first_bad, number_of, hex_text}
+use Rattle.mach_base.specs.Number.{has_prefix, number_of, hex_text}
 use Rattle.mach_base.proofs.Cuts.{and_no}
 use Rattle.mach_base.specs.Lines.{is_comment}
 use Rattle.sym_map.specs.Reading.{address_of}

@@ -1,15 +1,14 @@
 -- Loads that have their bounds, and the segments that they become.
-use Rattle.std.proofs.Common.{◌≡◌, ℕ, zero, suc, ◌+◌, ◌-◌, ◌*◌, ◌/◌, ◌%◌, ◌^◌, ◌<◌, ◌≤◌, ◌==◌, ◌&&◌, Bool, true, false, cond, List, [], ◌∷◌, ◌++◌, length, get_or, map, refl, sym, ap, ◌∙◌, subst, arith, length-append}
-use Rattle.std.specs.Prelude.{nat_le, nat_lt, replicate, take, drop, sum_by}
+use Rattle.std.proofs.Common.{◌≡◌, ℕ, ◌+◌, ◌-◌, ◌<◌, ◌≤◌, ◌==◌, ◌&&◌, Bool, true, false, cond, List, [], ◌∷◌, map, refl, arith}
+use Rattle.std.specs.Prelude.{nat_le, nat_lt}
 use Rattle.std.specs.List.{list_all, filter, AllByRecursion}
 use Rattle.std.proofs.lemmas.Bool.{and_parts, leb-true, ltb-true}
-use Rattle.std.proofs.lemmas.List.{length-replicate}
 use Rattle.std.proofs.lemmas.List.Sums.{sum_by-cons}
 use Rattle.mach_base.specs.Machine.{HasBounds, memory_size}
 use Rattle.mach_base.specs.declared.memory_range.Segment.{Segment}
 use Rattle.elf_img.specs.declared.program.ProgramHeader.{ProgramHeader}
-use Rattle.elf_img.specs.Bytes.{is_inside, range_at}
-use Rattle.elf_img.specs.Segments.{has_bounds, is_load, segment_of, base_of, end_of, bytes_of, file_bytes}
+use Rattle.elf_img.specs.Bytes.{is_inside}
+use Rattle.elf_img.specs.Segments.{has_bounds, is_load, segment_of, base_of, end_of, file_bytes}
 
 -- the bounds of a load in a file of this length
 pub record LoadBounds (len : ℕ) (h : ProgramHeader) : Type 0 where

@@ -1,10 +1,10 @@
 -- The first segments of an image are those of an image.
-use Rattle.std.proofs.Common.{◌≡◌, ℕ, zero, suc, ◌+◌, ◌-◌, ◌<◌, ◌≤◌, add-one, List, [], ◌∷◌, ◌++◌, length, get_or, take, map, refl, sym, ap, ◌∙◌, subst, arith, length-append}
+use Rattle.std.proofs.Common.{◌≡◌, ℕ, zero, suc, ◌+◌, ◌-◌, ◌<◌, add-one, List, [], ◌∷◌, ◌++◌, length, get_or, take, map, refl, sym, ap, ◌∙◌, subst, arith, length-append}
 use Rattle.std.proofs.lemmas.List.{map-append, take_more, take-append-drop}
 use Rattle.std.proofs.lemmas.List.Sums.{sum_by-append}
 use Rattle.std.specs.Prelude.{drop, replicate, slice_set}
 use Rattle.std.specs.List.{AllByRecursion}
-use Rattle.mach_base.specs.Machine.{AreSegments, AreInOrder, HasBounds, memory_size, Part}
+use Rattle.mach_base.specs.Machine.{AreSegments, AreInOrder, HasBounds}
 use Rattle.mach_base.specs.declared.memory_range.Segment.{Segment}
 use Rattle.mem_map.specs.Parts.{segments_of}
 use Rattle.elf_img.specs.declared.program.ProgramHeader.{ProgramHeader}

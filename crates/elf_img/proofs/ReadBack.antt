@@ -1,10 +1,9 @@
 -- The text of a map is read as its symbols.
-use Rattle.std.proofs.Common.{◌≡◌, ℕ, ◌+◌, ◌<◌, ◌≤◌, ◌^◌, Bool, true, false, not, eqb, List, [], ◌∷◌, ◌++◌, length, map, Some, Ok, refl, sym, ap, ◌∙◌, subst, append_assoc, arith}
+use Rattle.std.proofs.Common.{◌≡◌, ℕ, ◌<◌, ◌≤◌, Bool, true, false, not, eqb, List, [], ◌∷◌, ◌++◌, length, map, Some, Ok, refl, sym, ap, ◌∙◌, subst, append_assoc, arith}
 use Rattle.std.proofs.lemmas.Bool.{le-leb, ne_eqb}
 use Rattle.std.proofs.lemmas.List.{length-map}
 use Rattle.std.specs.List.{AllByRecursion}
 use Rattle.mach_base.specs.Lines.{is_blank, begins_with_word, onto_first, lines_of, words_of}
-use Rattle.mach_base.specs.Machine.{Symbol}
 use Rattle.mach_base.specs.Number.{hex_text}
 use Rattle.mach_base.proofs.Cuts.{word_goes_on}
 use Rattle.img_text.proofs.Parts.{AllByRecursion-both}

@@ -1,5 +1,5 @@
 -- The header of an object file (ELF-64 object file format, "ELF header"), and what is wrong with it.
-use Rattle.std.specs.Prelude.{ℕ, ◌+◌, ◌*◌, ◌%◌, ◌==◌, ◌&&◌, ◌||◌, Bool, not, List, [], ◌∷◌, length, slice_index, nat_lt}
+use Rattle.std.specs.Prelude.{ℕ, ◌*◌, ◌%◌, ◌==◌, ◌&&◌, ◌||◌, Bool, not, List, [], ◌∷◌, length, slice_index, nat_lt}
 use Rattle.mach_base.specs.declared.event.What.TheVariants.{ElfBytes}
 use Rattle.mach_base.specs.declared.limits.TheConstants.{ELF_BYTES}
 use Rattle.elf_img.specs.declared.fault.ElfWhy.TheVariants.{Short, Magic, FileType, Machine, Compressed, HeaderSize}

@@ -1,6 +1,6 @@
 -- The segments of an executable (ELF-64 object file format, "Program header table"), the image that they make, and what is
 -- wrong with them.
-use Rattle.std.specs.Prelude.{ℕ, ◌+◌, ◌-◌, ◌*◌, ◌/◌, ◌%◌, ◌^◌, ◌==◌, ◌&&◌, ◌||◌, Bool, true, not, List, [], ◌∷◌, ◌++◌, length, map, replicate, sum_by, Some, None, nat_lt, nat_le, if◌then◌else◌}
+use Rattle.std.specs.Prelude.{ℕ, ◌+◌, ◌-◌, ◌*◌, ◌/◌, ◌%◌, ◌==◌, ◌&&◌, ◌||◌, Bool, true, not, List, [], ◌∷◌, ◌++◌, length, map, replicate, sum_by, Some, None, nat_lt, nat_le, if◌then◌else◌}
 use Rattle.std.specs.List.{range_with_len, filter, list_any, list_all}
 use Rattle.mach_base.specs.declared.event.What.TheVariants.{Memory, FileBytes}
 use Rattle.mach_base.specs.declared.event.What.TheVariants as sizes

@@ -1,15 +1,14 @@
 -- The limits of macros, after each call that changes them.
-use Rattle.std.proofs.Common.{◌≡◌, ℕ, zero, suc, ◌+◌, ◌-◌, ◌<◌, ◌≤◌, Bool, true, false, not, cond, nat_le, List, [], ◌∷◌, ◌++◌, length, Option, Some, None, refl, arith, length-append}
-use Rattle.std.specs.Prelude.{slice_index_or, slice_set}
+use Rattle.std.proofs.Common.{◌≡◌, ℕ, zero, suc, ◌-◌, ◌<◌, Bool, true, false, not, cond, nat_le, List, [], ◌∷◌, ◌++◌, length, Some, None, refl, arith, length-append}
+use Rattle.std.specs.Prelude.{slice_set}
 use Rattle.std.specs.List.{AllByRecursion, list_any}
 use Rattle.std.proofs.lemmas.Bool.Decides.{nat_tests}
 use Rattle.std.proofs.lemmas.List.{length-set}
 use Rattle.mach_base.specs.Machine.{Macro}
 use Rattle.mach_base.specs.declared.limits.TheConstants.{MOST_MACROS, MACRO_LINES}
 use Rattle.kdb_env.specs.Variables.{is_name}
-use Rattle.kdb_macro.specs.declared.macro_fault.MacroFault.{MacroFault}
 use Rattle.kdb_macro.specs.declared.macro_fault.MacroFault.TheVariants.{BadName, Reserved, Duplicate, Full}
-use Rattle.kdb_macro.specs.Macros.{MacroList, AreMacros, IsShort, is_named, begin_refusal, begun, last_macro, longer, with_line, add_refusal}
+use Rattle.kdb_macro.specs.Macros.{MacroList, AreMacros, IsShort, is_named, begin_refusal, begun, last_macro, longer, with_line}
 
 -- each of two lists joined
 all-append : (xs ys : List Macro) → AllByRecursion IsShort xs → AllByRecursion IsShort ys → AllByRecursion IsShort (xs ++ ys)
