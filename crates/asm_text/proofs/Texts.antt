@@ -15,7 +15,7 @@ use Rattle.img_text.specs.declared.fault.ImageFault.{ImageFault}
 use Rattle.img_text.specs.declared.fault.ImageFault.TheVariants as image_faults
 use Rattle.img_text.specs.Image.{ImageRecord}
 use Rattle.img_text.specs.Reading.{Draft, at_line, read_line, read_lines, has_text, whole_image, image_of_lines}
-use Rattle.img_text.specs.Grammar.{Entry, parts_in, AreLines as AreImageLines, IsBad as IsImageBad, IsImageOf, AreTooMany, AreTooLarge, HaveManySegments as ImageHasManySegments, HaveMuchMemory as ImageHasMuchMemory}
+use Rattle.img_text.specs.Grammar.{Entry, AreLines as AreImageLines, IsBad as IsImageBad, IsImageOf, AreTooMany, AreTooLarge, HaveSegments}
 use Rattle.img_text.proofs.Grammar.{names_the_first_bad_line as image_names, is_what_the_lines_mean as image_means, counts_its_memory as image_counts}
 use Rattle.asm_text.specs.declared.fault.SourceFault.{SourceFault}
 use Rattle.asm_text.specs.declared.fault.SourceFault.TheVariants.{Bad, TooLarge}
@@ -34,13 +34,13 @@ mean_law : (ls : List (List ℕ)) → AreClear ls → (image : ImageRecord) → 
 mean_law ls clear image =
     subst (λ (xs : List (List ℕ)). image_of_lines xs ≡ Ok image → (es : List Entry) × AreImageLines xs es × IsImageOf es image) (lines_of-source ls clear) (image_means (lines_text (whole_image_lines ls)) image)
 
-segments_law : (ls : List (List ℕ)) → AreClear ls → (size : ℕ) → (image_of_lines (whole_image_lines ls) ≡ Err (image_faults.TooLarge Segments size)) ↔ ImageHasManySegments (whole_image_lines ls) size
+segments_law : (ls : List (List ℕ)) → AreClear ls → (size : ℕ) → (image_of_lines (whole_image_lines ls) ≡ Err (image_faults.TooLarge Segments size)) ↔ HaveSegments AreImageLines AreTooMany (whole_image_lines ls) size
 segments_law ls clear size =
-    subst (λ (xs : List (List ℕ)). (image_of_lines xs ≡ Err (image_faults.TooLarge Segments size)) ↔ ImageHasManySegments xs size) (lines_of-source ls clear) (image_counts (lines_text (whole_image_lines ls)) size).0
+    subst (λ (xs : List (List ℕ)). (image_of_lines xs ≡ Err (image_faults.TooLarge Segments size)) ↔ HaveSegments AreImageLines AreTooMany xs size) (lines_of-source ls clear) (image_counts (lines_text (whole_image_lines ls)) size).0
 
-memory_law : (ls : List (List ℕ)) → AreClear ls → (size : ℕ) → (image_of_lines (whole_image_lines ls) ≡ Err (image_faults.TooLarge Memory size)) ↔ ImageHasMuchMemory (whole_image_lines ls) size
+memory_law : (ls : List (List ℕ)) → AreClear ls → (size : ℕ) → (image_of_lines (whole_image_lines ls) ≡ Err (image_faults.TooLarge Memory size)) ↔ HaveSegments AreImageLines AreTooLarge (whole_image_lines ls) size
 memory_law ls clear size =
-    subst (λ (xs : List (List ℕ)). (image_of_lines xs ≡ Err (image_faults.TooLarge Memory size)) ↔ ImageHasMuchMemory xs size) (lines_of-source ls clear) (image_counts (lines_text (whole_image_lines ls)) size).1
+    subst (λ (xs : List (List ℕ)). (image_of_lines xs ≡ Err (image_faults.TooLarge Memory size)) ↔ HaveSegments AreImageLines AreTooLarge xs size) (lines_of-source ls clear) (image_counts (lines_text (whole_image_lines ls)) size).1
 
 -- an image has no limit of a source's bytes
 no_source_bytes : (number : ℕ) (draft : Draft) (ls : List (List ℕ)) (size : ℕ) → read_lines number draft ls ≡ Err (image_faults.TooLarge SourceBytes size) → ⊥
@@ -226,18 +226,14 @@ lines_in lines es a = lines_to_image a.header a.rest es (subst (λ (xs : List (L
 is_there : (lines : List (List ℕ)) (es : List Entry) (a : AreLines lines es) → source_of_lines lines ≡ as_source (image_of_lines (whole_image_lines a.rest))
 is_there lines es a = ap source_of_lines a.split ∙ with_header a.header a.rest a.is_header
 
--- lines that are right, whose segments and size are so
-abbrev Have : (List Part → ℕ → Type 0) → List (List ℕ) → ℕ → Type 0
-Have Are lines size = (es : List Entry) × AreLines lines es × Are (parts_in es) size
-
 -- what images say of a count over its limit
 abbrev ImageCounts : What → (List Part → ℕ → Type 0) → Type 0
 ImageCounts what Are =
     (ls : List (List ℕ)) → AreClear ls → (size : ℕ) →
-    (image_of_lines (whole_image_lines ls) ≡ Err (image_faults.TooLarge what size)) ↔ ((es : List Entry) × AreImageLines (whole_image_lines ls) es × Are (parts_in es) size)
+    (image_of_lines (whole_image_lines ls) ≡ Err (image_faults.TooLarge what size)) ↔ HaveSegments AreImageLines Are (whole_image_lines ls) size
 
 count_there : (what : What) (Are : List Part → ℕ → Type 0) → (SourceBytes ≡ what → ⊥) → ImageCounts what Are
-    → (text : List ℕ) (size : ℕ) → source_of text ≡ Err (TooLarge what size) → (length text ≤ SOURCE_BYTES) × Have Are (lines_of text) size
+    → (text : List ℕ) (size : ℕ) → source_of text ≡ Err (TooLarge what size) → (length text ≤ SOURCE_BYTES) × HaveSegments AreLines Are (lines_of text) size
 count_there what Are other law text size is =
     elim (cases_Bool (nat_lt SOURCE_BYTES (length text))) [
       | inl long ↦ absurd (other (large_same SourceBytes what (length text) size (sym (source_long text (ltb-true SOURCE_BYTES (length text) long)) ∙ is)).0)
@@ -245,10 +241,10 @@ count_there what Are other law text size is =
           let few = ltb-false SOURCE_BYTES (length text) short in
           let i = inside_large (lines_of text) what size (sym (source_short text few) ∙ is) in
           let h = (law i.others (rest_is_clear (lines_of text) _ (lines_of-clear text) i) size).0 i.is in
-          (few, subst (λ (xs : List (List ℕ)). Have Are xs size) (sym i.split) (h.0, lines_from_image i.first i.others h.0 i.header h.1, h.2))
+          (few, subst (λ (xs : List (List ℕ)). HaveSegments AreLines Are xs size) (sym i.split) (h.0, lines_from_image i.first i.others h.0 i.header h.1, h.2))
     ]
 
-count_back : (what : What) (Are : List Part → ℕ → Type 0) → ImageCounts what Are → (text : List ℕ) (size : ℕ) → (length text ≤ SOURCE_BYTES) × Have Are (lines_of text) size
+count_back : (what : What) (Are : List Part → ℕ → Type 0) → ImageCounts what Are → (text : List ℕ) (size : ℕ) → (length text ≤ SOURCE_BYTES) × HaveSegments AreLines Are (lines_of text) size
     → source_of text ≡ Err (TooLarge what size)
 count_back what Are law text size both =
     let h = both.1 in

@@ -15,7 +15,7 @@ use Rattle.img_text.specs.declared.directive.Directive.TheVariants.{Put}
 use Rattle.img_text.specs.Directives.{line_of}
 use Rattle.img_text.specs.Reading.{has_text}
 use Rattle.img_text.specs.Image.{ImageRecord}
-use Rattle.img_text.specs.Grammar.{Entry, last_part, parts_in, refusal_after, AreAllowed, IsImageOf, AreTooMany, AreTooLarge}
+use Rattle.img_text.specs.Grammar.{Entry, last_part, parts_in, refusal_after, AreAllowed, IsImageOf, AreTooMany, AreTooLarge, HaveSegments}
 use Rattle.asm_text.specs.declared.fault.SourceFault.TheVariants.{Bad, TooLarge}
 use Rattle.asm_text.specs.declared.labels.Given.{Given}
 use Rattle.asm_text.specs.declared.kind.LineKind.TheVariants.{Label, Instruction}
@@ -122,22 +122,14 @@ NamesTheFirstBadLine =
 abbrev pub IsWhatTheLinesMean : Type 0
 IsWhatTheLinesMean = (text : List ℕ) (image : ImageRecord) → source_of text ≡ Ok image → (es : List Entry) × AreLines (lines_of text) es × IsImageOf es image
 
--- lines that are right and have text, and too many segments: so many
-abbrev pub HaveManySegments : List (List ℕ) → ℕ → Type 0
-HaveManySegments lines size = (es : List Entry) × AreLines lines es × AreTooMany (parts_in es) size
-
--- lines that are right and have text, not too many segments, and too much memory: so much
-abbrev pub HaveMuchMemory : List (List ℕ) → ℕ → Type 0
-HaveMuchMemory lines size = (es : List Entry) × AreLines lines es × AreTooLarge (parts_in es) size
-
 -- a text is too large exactly where it has too many bytes, else where its lines have too many segments, or else too much
 -- memory
 abbrev pub CountsItsMemory : Type 0
 CountsItsMemory =
     (text : List ℕ) (size : ℕ) →
     ((source_of text ≡ Err (TooLarge SourceBytes size)) ↔ ((size ≡ length text) × (SOURCE_BYTES < length text))) ×
-    ((source_of text ≡ Err (TooLarge Segments size)) ↔ ((length text ≤ SOURCE_BYTES) × HaveManySegments (lines_of text) size)) ×
-    ((source_of text ≡ Err (TooLarge Memory size)) ↔ ((length text ≤ SOURCE_BYTES) × HaveMuchMemory (lines_of text) size))
+    ((source_of text ≡ Err (TooLarge Segments size)) ↔ ((length text ≤ SOURCE_BYTES) × HaveSegments AreLines AreTooMany (lines_of text) size)) ×
+    ((source_of text ≡ Err (TooLarge Memory size)) ↔ ((length text ≤ SOURCE_BYTES) × HaveSegments AreLines AreTooLarge (lines_of text) size))
 
 -- the address after the bytes of a part
 abbrev pub running_place : Option Part → Option ℕ

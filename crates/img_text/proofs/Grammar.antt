@@ -15,7 +15,7 @@ use Rattle.img_text.specs.declared.fault.ImageFault.{ImageFault}
 use Rattle.img_text.specs.declared.fault.ImageFault.TheVariants.{Bad, TooLarge}
 use Rattle.img_text.specs.Image.{ImageRecord, filled}
 use Rattle.img_text.specs.Reading.{Draft, read_lines, has_text, within_limits, whole_image, is_header, image_of_lines}
-use Rattle.img_text.specs.Grammar.{Entry, parts_in, HasNoHeader, IsFirstBad, AreLines, IsBad, IsImageOf, HaveManySegments, HaveMuchMemory, NamesTheFirstBadLine, IsWhatTheLinesMean, CountsItsMemory}
+use Rattle.img_text.specs.Grammar.{Entry, parts_in, HasNoHeader, IsFirstBad, AreLines, IsBad, IsImageOf, AreTooMany, AreTooLarge, HaveSegments, NamesTheFirstBadLine, IsWhatTheLinesMean, CountsItsMemory}
 use Rattle.img_text.proofs.Drafts.{IsDraft, IsDraft-start, start_draft}
 use Rattle.img_text.proofs.RightLines.{cases_lines, leaves, wrong-is}
 
@@ -113,8 +113,8 @@ Means lines image = (es : List Entry) × AreLines lines es × IsImageOf es image
 
 data Answer (lines : List (List ℕ)) : Type 0 where
   is_bad : (number : ℕ) (why : Why) → Result_of lines (Err (Bad number why)) → IsBad lines number why → Answer lines
-  has_many : (size : ℕ) → Result_of lines (Err (TooLarge Segments size)) → HaveManySegments lines size → Answer lines
-  is_large : (size : ℕ) → Result_of lines (Err (TooLarge Memory size)) → HaveMuchMemory lines size → Answer lines
+  has_many : (size : ℕ) → Result_of lines (Err (TooLarge Segments size)) → HaveSegments AreLines AreTooMany lines size → Answer lines
+  is_large : (size : ℕ) → Result_of lines (Err (TooLarge Memory size)) → HaveSegments AreLines AreTooLarge lines size → Answer lines
   is_image : (i : ImageRecord) → Result_of lines (Ok i) → Means lines i → Answer lines
 
 answer_of_lines : (lines : List (List ℕ)) (es : List Entry) → AreLines lines es → Answer lines
@@ -236,26 +236,26 @@ is_what_the_lines_mean text i is = image_there (lines_of text) i is (answer_of (
 size_same : (w : What) (m n : ℕ) (r : Result ImageRecord ImageFault) → r ≡ Err (TooLarge w m) → r ≡ Err (TooLarge w n) → m ≡ n
 size_same w m n r e f = cc
 
-segments_there : (lines : List (List ℕ)) (size : ℕ) → Result_of lines (Err (TooLarge Segments size)) → Answer lines → HaveManySegments lines size
+segments_there : (lines : List (List ℕ)) (size : ℕ) → Result_of lines (Err (TooLarge Segments size)) → Answer lines → HaveSegments AreLines AreTooMany lines size
 segments_there lines size is (is_bad n w there cause) = absurd (cc)
-segments_there lines size is (has_many k there cause) = subst (λ (n : ℕ). HaveManySegments lines n) (size_same Segments k size (image_of_lines lines) there is) cause
+segments_there lines size is (has_many k there cause) = subst (λ (n : ℕ). HaveSegments AreLines AreTooMany lines n) (size_same Segments k size (image_of_lines lines) there is) cause
 segments_there lines size is (is_large k there cause) = absurd (cc)
 segments_there lines size is (is_image i2 there cause) = absurd (cc)
 
-memory_there : (lines : List (List ℕ)) (size : ℕ) → Result_of lines (Err (TooLarge Memory size)) → Answer lines → HaveMuchMemory lines size
+memory_there : (lines : List (List ℕ)) (size : ℕ) → Result_of lines (Err (TooLarge Memory size)) → Answer lines → HaveSegments AreLines AreTooLarge lines size
 memory_there lines size is (is_bad n w there cause) = absurd (cc)
 memory_there lines size is (has_many k there cause) = absurd (cc)
-memory_there lines size is (is_large k there cause) = subst (λ (n : ℕ). HaveMuchMemory lines n) (size_same Memory k size (image_of_lines lines) there is) cause
+memory_there lines size is (is_large k there cause) = subst (λ (n : ℕ). HaveSegments AreLines AreTooLarge lines n) (size_same Memory k size (image_of_lines lines) there is) cause
 memory_there lines size is (is_image i2 there cause) = absurd (cc)
 
-segments_back : (lines : List (List ℕ)) (size : ℕ) → HaveManySegments lines size → Result_of lines (Err (TooLarge Segments size))
+segments_back : (lines : List (List ℕ)) (size : ℕ) → HaveSegments AreLines AreTooMany lines size → Result_of lines (Err (TooLarge Segments size))
 segments_back lines size o =
     let g = gives lines o.0 o.1 in
     let ps = parts_in o.0 in
     let over : MOST_SEGMENTS < length ps = omega (arith, o.2.count, o.2.many) in
     g.is ∙ whole-text (length lines + 1) ps g.draft.pcs g.draft.sps o.2.text ∙ limits-segments ps (built ps g.draft.pcs g.draft.sps) over ∙ ap (λ (n : ℕ). Err (TooLarge Segments n)) (sym o.2.count)
 
-memory_back : (lines : List (List ℕ)) (size : ℕ) → HaveMuchMemory lines size → Result_of lines (Err (TooLarge Memory size))
+memory_back : (lines : List (List ℕ)) (size : ℕ) → HaveSegments AreLines AreTooLarge lines size → Result_of lines (Err (TooLarge Memory size))
 memory_back lines size o =
     let g = gives lines o.0 o.1 in
     let ps = parts_in o.0 in

@@ -174,17 +174,13 @@ pub record AreTooLarge (parts : List Part) (size : ℕ) : Type 0 where
   pub count : size ≡ memory_size (segments_of parts)
   pub large : MOST_MEMORY < size
 
--- lines that are right and have text, and too many segments: so many
-abbrev pub HaveManySegments : List (List ℕ) → ℕ → Type 0
-HaveManySegments lines size = (es : List Entry) × AreLines lines es × AreTooMany (parts_in es) size
-
--- lines that are right and have text, not too many segments, and too much memory: so much
-abbrev pub HaveMuchMemory : List (List ℕ) → ℕ → Type 0
-HaveMuchMemory lines size = (es : List Entry) × AreLines lines es × AreTooLarge (parts_in es) size
+-- lines that are right, by the relation of a format, and have segments so many or so large
+abbrev pub HaveSegments : (List (List ℕ) → List Entry → Type 0) → (List Part → ℕ → Type 0) → List (List ℕ) → ℕ → Type 0
+HaveSegments AreRightLines Are lines size = (es : List Entry) × AreRightLines lines es × Are (parts_in es) size
 
 -- a text is too large exactly where its lines have too many segments, or else too much memory
 abbrev pub CountsItsMemory : Type 0
 CountsItsMemory =
     (text : List ℕ) (size : ℕ) →
-    ((image_of text ≡ Err (TooLarge Segments size)) ↔ HaveManySegments (lines_of text) size) ×
-    ((image_of text ≡ Err (TooLarge Memory size)) ↔ HaveMuchMemory (lines_of text) size)
+    ((image_of text ≡ Err (TooLarge Segments size)) ↔ HaveSegments AreLines AreTooMany (lines_of text) size) ×
+    ((image_of text ≡ Err (TooLarge Memory size)) ↔ HaveSegments AreLines AreTooLarge (lines_of text) size)
