@@ -1,5 +1,5 @@
 -- A word that is planted in a free slot, and one that is pulled from its slot.
-use Rattle.std.proofs.Common.{◌≡◌, ◌≢◌, ℕ, zero, suc, ◌<◌, ◌^◌, eqb, Bool, true, false, ◌||◌, List, [], ◌∷◌, length, slice_set, slice_index_or, map, Option, Some, None, refl, sym, ap, ◌∙◌, arith}
+use Rattle.std.proofs.Common.{◌≡◌, ◌≢◌, ℕ, zero, suc, ◌<◌, ◌^◌, eqb, Bool, true, false, ◌||◌, List, [], ◌∷◌, length, slice_set, slice_index_or, map, Option, Some, None, refl, sym, ap, subst, ◌∙◌, arith}
 use Rattle.std.proofs.lemmas.Bool.{false≢true, ne_eqb}
 use Rattle.std.proofs.lemmas.List.{length-set, length-map}
 use Rattle.mach_base.specs.Machine.{Memory}
@@ -285,3 +285,43 @@ module _ (raw after : Memory) (places : List (Option Saved)) (step : Option Save
       plant-view raw after places step i s are (within-places raw places step p i seen place) saved empty (unplanted-slots raw places step p addr s.addr seen at unplanted)
       ∙ ap (λ a. record (planted_memory raw places step) { places = slice_set (addresses places) i (Some a) }) at
       ∙ ap (λ (q : PlantedMemory). record q { places = slice_set q.places i (Some addr) }) seen
+
+-- the step word that is planted where there is none
+module _ (raw after : Memory) (places : List (Option Saved)) (step : Option Saved) (p : PlantedMemory) (s : Saved) (are : AreKept raw places step) (seen : planted_memory raw places step ≡ p) (free : p.step ≡ None) (addr : ℕ) (unplanted : is_planted p addr ≡ false) (at : s.addr ≡ addr) (saved : IsSaved raw s after) where
+  no_step : step ≡ None
+  no_step = free-step step (ap (λ (q : PlantedMemory). q.step) seen ∙ free)
+
+  are_places : AreKept raw places None
+  are_places = subst (λ w. AreKept raw places w) no_step are
+
+  other_places : has_address (addresses (None ∷ places)) s.addr ≡ false
+  other_places = subst (λ w. has_address (addresses (w ∷ places)) s.addr ≡ false) no_step (unplanted-slots raw places step p addr s.addr seen at unplanted)
+
+  pub step-kept : AreKept after places (Some s)
+  step-kept = plant_step-kept raw after places s are_places saved other_places
+
+  pub step-view : planted_memory after places (Some s) ≡ record p { step = Some addr }
+  step-view =
+      plant_step-view raw after places s are_places saved other_places
+      ∙ ap (λ w. record (planted_memory raw places w) { step = Some s.addr }) (sym no_step)
+      ∙ ap (λ a. record (planted_memory raw places step) { step = Some a }) at
+      ∙ ap (λ (q : PlantedMemory). record q { step = Some addr }) seen
+
+-- what is pulled from a place, by its number as an index
+module _ (raw : Memory) (places : List (Option Saved)) (step : Option Saved) (p : PlantedMemory) (i j : ℕ) (s : Saved) (are : AreKept raw places step) (seen : planted_memory raw places step ≡ p) (place : i < length p.places) (same : j ≡ i) (here : slice_index_or places j None ≡ Some s) where
+  is_within : i < length places
+  is_within = within-places raw places step p i seen place
+
+  is_there : slice_index_or places i None ≡ Some s
+  is_there = slot-there places i j None s same is_within here
+
+  pub place-text : access_fault raw Fetch s.addr 4 ≡ None
+  place-text = pull-text raw raw places step i s are is_within is_there
+
+  pub pulled_place-kept : (after : Memory) → after ≡ after_store raw s.addr 4 s.word → AreKept after (slice_set places i None) step
+  pulled_place-kept after written = pull-kept raw after places step i s are is_within is_there written
+
+  pub pulled_place-view : (after : Memory) → after ≡ after_store raw s.addr 4 s.word → planted_memory after (slice_set places i None) step ≡ record p { places = slice_set p.places i None }
+  pulled_place-view after written =
+      pull-view raw after places step i s are is_within is_there written
+      ∙ ap (λ (q : PlantedMemory). record q { places = slice_set q.places i None }) seen

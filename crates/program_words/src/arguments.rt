@@ -37,39 +37,13 @@ pub(crate) fn option<'a>(alloc: Global, name: &'a str, low: u64, high: u64) -> A
         .value_parser(ValueParser::unsigned(low, high))
 }
 
-/// The command with the name of one more file.
-pub(crate) fn with_file<'a>(
+/// The command with one more argument, which holds for that command alone.
+pub(crate) fn with_argument<'a>(
     command: clap::Command<'a>,
-    alloc: Global,
-    name: &'a str,
+    argument: Arg<'a>,
 ) -> Result<clap::Command<'a>, AllocError>
-    ensures { IfOk result (HasRule command.entry (operand_rule (file name.entry.now))) }
+    requires { argument.global ≡ false }
+    ensures { IfOk result (HasRule command.entry (rule_of argument.entry)) }
 {
-    command.arg(file(alloc, name))
-}
-
-/// The command with one more number.
-pub(crate) fn with_number<'a>(
-    command: clap::Command<'a>,
-    alloc: Global,
-    name: &'a str,
-    low: u64,
-    high: u64,
-) -> Result<clap::Command<'a>, AllocError>
-    ensures { IfOk result (HasRule command.entry (operand_rule (between name.entry.now low high))) }
-{
-    command.arg(number(alloc, name, low, high))
-}
-
-/// The command with one more option.
-pub(crate) fn with_option<'a>(
-    command: clap::Command<'a>,
-    alloc: Global,
-    name: &'a str,
-    low: u64,
-    high: u64,
-) -> Result<clap::Command<'a>, AllocError>
-    ensures { IfOk result (HasRule command.entry (option_rule (between name.entry.now low high))) }
-{
-    command.arg(option(alloc, name, low, high))
+    command.arg(argument)
 }

@@ -2,7 +2,7 @@ ghost use Rattle.std.specs.Prelude.{◌≡◌, [], ◌∷◌, codes, IfOk, map};
 ghost use Rattle.program_words.specs.Parser.{HasCommand, HasRules, IsParser, IsRow, operand_rule, option_rule, program, program_settings};
 ghost use Rattle.program_words.specs.Rows.{asm_row, command_rows, elf_row, file, load_row, lockstep_row, replay_row, run_options, run_row, uni_row};
 
-use crate::arguments::{with_file, with_number, with_option};
+use crate::arguments::{file, number, option, with_argument};
 use mach_base::{MOST_HARTS, MOST_ROUNDS, MOST_STEPS};
 use std::alloc::{AllocError, Global};
 
@@ -11,8 +11,8 @@ fn uni<'a>(alloc: Global) -> Result<clap::Command<'a>, AllocError>
     ensures { IfOk result (IsRow uni_row) }
 {
     let command = clap::Command::new(alloc, "uni");
-    let command = with_file(command, alloc, "image")?;
-    with_file(command, alloc, "script")
+    let command = with_argument(command, file(alloc, "image"))?;
+    with_argument(command, file(alloc, "script"))
 }
 
 /// `replay IMAGE MAP SCRIPT JOURNAL`
@@ -21,7 +21,7 @@ fn replay<'a>(alloc: Global) -> Result<clap::Command<'a>, AllocError>
 {
     let command = clap::Command::new(alloc, "replay");
     let command = with_session_files(command, alloc)?;
-    with_file(command, alloc, "journal")
+    with_argument(command, file(alloc, "journal"))
 }
 
 /// `run IMAGE MAP SCRIPT JOURNAL` with its options.
@@ -30,7 +30,7 @@ fn run<'a>(alloc: Global) -> Result<clap::Command<'a>, AllocError>
 {
     let command = clap::Command::new(alloc, "run");
     let command = with_session_files(command, alloc)?;
-    let command = with_file(command, alloc, "journal")?;
+    let command = with_argument(command, file(alloc, "journal"))?;
     with_run_options(command, alloc)
 }
 
@@ -40,8 +40,8 @@ fn lockstep<'a>(alloc: Global) -> Result<clap::Command<'a>, AllocError>
 {
     let command = clap::Command::new(alloc, "lockstep");
     let command = with_session_files(command, alloc)?;
-    let command = with_file(command, alloc, "plan")?;
-    let command = with_file(command, alloc, "journal")?;
+    let command = with_argument(command, file(alloc, "plan"))?;
+    let command = with_argument(command, file(alloc, "journal"))?;
     with_run_options(command, alloc)
 }
 
@@ -50,8 +50,8 @@ fn asm<'a>(alloc: Global) -> Result<clap::Command<'a>, AllocError>
     ensures { IfOk result (IsRow asm_row) }
 {
     let command = clap::Command::new(alloc, "asm");
-    let command = with_file(command, alloc, "source")?;
-    with_file(command, alloc, "image")
+    let command = with_argument(command, file(alloc, "source"))?;
+    with_argument(command, file(alloc, "image"))
 }
 
 /// `elf ELF IMAGE MAP`
@@ -59,9 +59,9 @@ fn elf<'a>(alloc: Global) -> Result<clap::Command<'a>, AllocError>
     ensures { IfOk result (IsRow elf_row) }
 {
     let command = clap::Command::new(alloc, "elf");
-    let command = with_file(command, alloc, "elf")?;
-    let command = with_file(command, alloc, "image")?;
-    with_file(command, alloc, "map")
+    let command = with_argument(command, file(alloc, "elf"))?;
+    let command = with_argument(command, file(alloc, "image"))?;
+    with_argument(command, file(alloc, "map"))
 }
 
 /// `load NUMBER`
@@ -69,7 +69,7 @@ fn load<'a>(alloc: Global) -> Result<clap::Command<'a>, AllocError>
     ensures { IfOk result (IsRow load_row) }
 {
     let command = clap::Command::new(alloc, "load");
-    with_number(command, alloc, "number", 0, u32::MAX as u64)
+    with_argument(command, number(alloc, "number", 0, u32::MAX as u64))
 }
 
 /// The command with the files of a session: its image, its map and its script.
@@ -79,9 +79,9 @@ fn with_session_files<'a>(
 ) -> Result<clap::Command<'a>, AllocError>
     ensures { IfOk result (HasRules command.entry (map operand_rule (file (codes "image") ∷ file (codes "map") ∷ file (codes "script") ∷ []))) }
 {
-    let command = with_file(command, alloc, "image")?;
-    let command = with_file(command, alloc, "map")?;
-    with_file(command, alloc, "script")
+    let command = with_argument(command, file(alloc, "image"))?;
+    let command = with_argument(command, file(alloc, "map"))?;
+    with_argument(command, file(alloc, "script"))
 }
 
 /// The command with the options of a run.
@@ -91,9 +91,9 @@ fn with_run_options<'a>(
 ) -> Result<clap::Command<'a>, AllocError>
     ensures { IfOk result (HasRules command.entry (map option_rule run_options)) }
 {
-    let command = with_option(command, alloc, "harts", 1, MOST_HARTS as u64)?;
-    let command = with_option(command, alloc, "steps", 1, MOST_STEPS)?;
-    with_option(command, alloc, "rounds", 1, MOST_ROUNDS as u64)
+    let command = with_argument(command, option(alloc, "harts", 1, MOST_HARTS as u64))?;
+    let command = with_argument(command, option(alloc, "steps", 1, MOST_STEPS))?;
+    with_argument(command, option(alloc, "rounds", 1, MOST_ROUNDS as u64))
 }
 
 /// The parser of all the words.
