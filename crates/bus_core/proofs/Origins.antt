@@ -1,17 +1,19 @@
 -- Cores of one origin.
 use Rattle.std.proofs.lemmas.List.{append-nil}
 use Rattle.std.specs.Prelude.{vec_len}
+use Rattle.std.proofs.Math.Logic.{∥∥₁_map}
 use Rattle.std.proofs.Common.{◌≡◌, ℕ, Bool, true, false, List, [], ◌∷◌, ◌++◌, Some, refl, sym, ap, ◌∙◌, arith}
 use Rattle.mach_base.specs.declared.event.Entry.{Entry}
 use Rattle.atom_mach.specs.State.{hart_count}
 use Rattle.plant_mach.specs.Machine.{PlantedMachine}
-use Rattle.plant_mach.specs.Entries.{Made, made_by}
+use Rattle.plant_mach.specs.Entries.{Made, effect, made_by}
 use Rattle.plant_mach.specs.Laws.{ListsJoin, EntriesKeep}
 use Rattle.plant_mach.specs.Reading.{LegalListsAreRuns, LegalListsPrintTranscripts}
 use Rattle.bus_core.specs.declared.outer.Core.{Core}
-use Rattle.bus_core.specs.Origin.{Origin, start_of, IsFrom}
+use Rattle.bus_core.specs.Inner.{is_legal}
+use Rattle.bus_core.specs.Origin.{Origin, start_of, IsFrom, HasOrigin}
 use Rattle.bus_core.specs.Core.{machine_of, entries_of, text_of, ComesFrom, IsSame, Applied, SameOrigin, IsRunOf}
-use Rattle.bus_core.proofs.Lists.{one_more, lost_from}
+use Rattle.bus_core.proofs.Lists.{makes_effect, one_more, lost_from}
 
 -- a core to which an entry was applied
 pub applied_origin : ListsJoin → EntriesKeep → (a b : Core) (e : Entry) → Applied a e b → SameOrigin a b
@@ -31,6 +33,28 @@ same_from o entries after text grown p q was lost journal more next alike from =
   legal = ap (made_by (start_of o)) journal ∙ from.legal;
   now = λ here. from.now (sym alike ∙ here) ∙ rw (more, next) refl;
 }
+
+-- the entry was applied to the core, where it was legal and leaves what it makes
+pub applied : (a b : Core) (e : Entry) → is_legal (machine_of a) e ≡ true → machine_of b ≡ (effect (machine_of a) e).next → entries_of b ≡ entries_of a ++ (e ∷ []) → text_of b ≡ text_of a ++ (effect (machine_of a) e).text → a.lost ≡ false → b.lost ≡ false → Applied a e b
+applied a b e legal machine journal text before after = record {
+  made = effect (machine_of a) e;
+  legal = makes_effect (machine_of a) e legal;
+  machine = machine;
+  journal = journal;
+  text = text;
+  before = before;
+  after = after;
+}
+
+-- the origin of a core after a legal entry more
+pub more_origin : ListsJoin → (a : Core) (e : Entry) (entries : List Entry) (text : List ℕ) (p : PlantedMachine) (lost : Bool) → a.lost ≡ false → is_legal (machine_of a) e ≡ true →
+    entries ≡ entries_of a ++ (e ∷ []) → text ≡ text_of a ++ (effect (machine_of a) e).text → p ≡ (effect (machine_of a) e).next → ∥ HasOrigin entries text p lost ∥₁
+more_origin joins a e entries text p lost here legal journal more next =
+    ∥∥₁_map a.made (λ h. (h.0, one_more joins h.0 (entries_of a) (text_of a) (machine_of a) e (effect (machine_of a) e) entries text p a.lost lost here (makes_effect (machine_of a) e legal) journal more next h.1))
+
+-- the origin of a lost core, with the journal that it had
+pub lost_made : (a : Core) (entries : List Entry) (text : List ℕ) (p : PlantedMachine) → entries ≡ entries_of a → ∥ HasOrigin entries text p true ∥₁
+lost_made a entries text p same = ∥∥₁_map a.made (λ h. (h.0, lost_from h.0 (entries_of a) entries (text_of a) text (machine_of a) p a.lost true same refl h.1))
 
 -- a core of which nothing was changed
 pub same_origin : (a b : Core) → IsSame a b → SameOrigin a b

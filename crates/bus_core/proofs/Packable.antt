@@ -1,5 +1,5 @@
 -- A legal entry has bytes in a packed list.
-use Rattle.std.proofs.Common.{◌≡◌, ◌≢◌, ℕ, ◌<◌, ◌≤◌, ◌^◌, ◌&&◌, ◌==◌, Bool, true, false, not, length, Option, Some, None, is_some, is_none, refl, sym, ap, ◌∙◌, arith, rules}
+use Rattle.std.proofs.Common.{◌≡◌, ◌≢◌, ℕ, ◌<◌, ◌≤◌, ◌^◌, ◌&&◌, true, length, refl, arith, rules}
 use Rattle.std.proofs.lemmas.Bool.{false≢true}
 use Rattle.mach_base.specs.Packed.{IsPackable}
 use Rattle.mach_base.specs.Machine.{Place}
@@ -9,13 +9,13 @@ use Rattle.mach_base.specs.declared.event.Ending.TheVariants.{ScriptEnd, AllHalt
 use Rattle.mach_base.specs.declared.event.Entry.{Entry}
 use Rattle.mach_base.specs.declared.event.Entry.TheVariants.{Step, Intr, Send, Take, Open, Pull, Line, Plant, PlantStep, PullStep, Close, Off}
 use Rattle.mach_base.proofs.Bits.{pow_32}
-use Rattle.deck_core.specs.declared.plain.notes.Sitting.{Sitting}
 use Rattle.deck_core.specs.contract.Allowed.{in_session, is_of, is_lines, is_leaving}
 use Rattle.atom_mach.specs.State.{hart_count}
 use Rattle.atom_mach.proofs.Booleans.{and_true}
-use Rattle.plant_mach.specs.Machine.{PlantedMachine, enabled_address, planted_of, enabled_of}
-use Rattle.plant_mach.specs.Entries.{has_line, may}
+use Rattle.plant_mach.specs.Machine.{PlantedMachine}
+use Rattle.plant_mach.specs.Entries.{may}
 use Rattle.plant_mach.specs.Order.{IsSeated}
+use Rattle.plant_mach.proofs.Sessions.{master_there}
 use Rattle.bus_core.proofs.Steps.{step_facts, interrupt_facts, send_there, take_there}
 use Rattle.bus_core.proofs.Sessions.{open_facts}
 use Rattle.bus_core.proofs.Planting.{pull_facts, plant_facts, enabled_there}
@@ -39,29 +39,17 @@ range_of PullStep none = tt
 range_of (Close h) none = tt
 range_of (Off ending) none = tt
 
--- the master of a session is there
-master_there : (session : Option Sitting) (harts h : ℕ) (test : Sitting → Bool) → IsSeated harts session → in_session (λ s. is_of h s && test s) session ≡ true → h < harts
-master_there None harts h test seated e = absurd (false≢true e)
-master_there (Some s) harts h test seated e =
-    let mine = (and_true (is_of h s) (test s) e).0 in
-    let same : s.master.0 ≡ h = search rules in
-    rw (← same) seated.master
-
-line_there : (p : PlantedMachine) (h : ℕ) → IsSeated (hart_count p.machine) p.session → (in_session (λ s. is_of h s && is_lines s.stage) p.session && ((planted_of p == 0) && has_line p.machine.unread)) ≡ true → h < hart_count p.machine
-line_there p h seated e = master_there p.session (hart_count p.machine) h (λ s. is_lines s.stage) seated (and_true (in_session (λ s. is_of h s && is_lines s.stage) p.session) _ e).0
-
-close_there : (p : PlantedMachine) (h : ℕ) → IsSeated (hart_count p.machine) p.session → (in_session (λ s. is_of h s && is_leaving s.stage) p.session && (is_none p.step && (planted_of p == enabled_of p))) ≡ true → h < hart_count p.machine
-close_there p h seated e = master_there p.session (hart_count p.machine) h (λ s. is_leaving s.stage) seated (and_true (in_session (λ s. is_of h s && is_leaving s.stage) p.session) _ e).0
-
-line_is : (p : PlantedMachine) (h : Hart) → IsSeated (hart_count p.machine) p.session → may p (Line h) ≡ true → h.0 < hart_count p.machine
+-- the hart of a line, and of a closing, is there
+pub line_is : (p : PlantedMachine) (h : Hart) → IsSeated (hart_count p.machine) p.session → may p (Line h) ≡ true → h.0 < hart_count p.machine
 unfolding may
-line_is p h seated e = line_there p h.0 seated e
+line_is p h seated e = master_there p.session (hart_count p.machine) h.0 (λ s. is_lines s.stage) seated (and_true (in_session (λ s. is_of h.0 s && is_lines s.stage) p.session) _ e).0
 
-close_is : (p : PlantedMachine) (h : Hart) → IsSeated (hart_count p.machine) p.session → may p (Close h) ≡ true → h.0 < hart_count p.machine
+pub close_is : (p : PlantedMachine) (h : Hart) → IsSeated (hart_count p.machine) p.session → may p (Close h) ≡ true → h.0 < hart_count p.machine
 unfolding may
-close_is p h seated e = close_there p h.0 seated e
+close_is p h seated e = master_there p.session (hart_count p.machine) h.0 (λ s. is_leaving s.stage) seated (and_true (in_session (λ s. is_of h.0 s && is_leaving s.stage) p.session) _ e).0
 
-no_plan_end : (p : PlantedMachine) → may p (Off PlanEnd) ≡ true → ⊥
+-- no legal entry ends a plan
+pub no_plan_end : (p : PlantedMachine) → may p (Off PlanEnd) ≡ true → ⊥
 unfolding may
 no_plan_end p e = false≢true e
 

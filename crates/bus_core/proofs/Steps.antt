@@ -1,5 +1,5 @@
 -- What holds where a hart may execute, take its interrupt, be called or take its call.
-use Rattle.std.proofs.Common.{◌≡◌, ℕ, ◌+◌, ◌<◌, ◌≤◌, ◌&&◌, ◌||◌, Bool, true, false, not, cond, Option, Some, None, is_some, option_map, refl, sym, arith}
+use Rattle.std.proofs.Common.{◌≡◌, ℕ, ◌+◌, ◌<◌, ◌≤◌, ◌&&◌, ◌||◌, Bool, true, false, not, cond, Option, Some, None, option_map, refl, arith}
 use Rattle.std.proofs.lemmas.Bool.{false≢true, ltb-true}
 use Rattle.mach_base.specs.declared.event.Hart.{Hart}
 use Rattle.mach_base.specs.declared.event.Entry.TheVariants.{Step, Intr, Send, Take}
@@ -11,17 +11,13 @@ use Rattle.deck_core.specs.contract.Allowed.{in_session, is_of, is_pass}
 use Rattle.atom_mach.specs.State.{hart_count, context_at}
 use Rattle.atom_mach.specs.Traps.{fault_of}
 use Rattle.atom_mach.specs.Session.{is_hart}
-use Rattle.atom_mach.proofs.Booleans.{and_true, not_is, either_case}
+use Rattle.atom_mach.proofs.Booleans.{and_true, not_is, is_some-None, either_case}
 use Rattle.plant_mach.specs.Machine.{PlantedMachine, is_held}
 use Rattle.plant_mach.specs.Entries.{may_run, may_pass, faults, after_pass, after_step, is_called, may}
 use Rattle.bus_core.specs.Seated.{owed_at, owed}
 
 pub there : (p : PlantedMachine) (h : ℕ) → is_hart p.machine h ≡ true → h < hart_count p.machine
 there p h e = ltb-true h (hart_count p.machine) e
-
-no_fault : {A : Type 0} (o : Option A) → is_some o ≡ false → o ≡ None
-no_fault None e = refl
-no_fault (Some x) e = absurd (false≢true (sym e))
 
 -- Steps that are owed.
 
@@ -71,7 +67,7 @@ by_running p h lt e =
     let below : p.machine.steps < p.machine.limit = ltb-true p.machine.steps p.machine.limit b.0 in
     record {
       there = lt;
-      right = no_fault (fault_of p.machine h) (not_is (faults p h) d.1);
+      right = is_some-None (fault_of p.machine h) (not_is (faults p h) d.1);
       room = λ limit read same bounded lines. let less = owed_after h p.session in omega arith;
     }
 
@@ -81,7 +77,7 @@ by_passing p h lt e =
     let b = and_true (not (faults p h)) _ a.1 in
     record {
       there = lt;
-      right = no_fault (fault_of p.machine h) (not_is (faults p h) b.0);
+      right = is_some-None (fault_of p.machine h) (not_is (faults p h) b.0);
       room = λ limit read same bounded lines. let less = pass_after h p.session a.0 in omega arith;
     }
 

@@ -1,5 +1,5 @@
 -- The room that is left falls with every entry.
-use Rattle.std.proofs.Common.{◌≡◌, ℕ, suc, ◌+◌, ◌-◌, ◌*◌, ◌<◌, ◌≤◌, eqb, ◌&&◌, Bool, true, false, not, cond, List, [], ◌∷◌, length, Option, Some, None, is_some, is_none, nat_lt, Result, Ok, Err, option_map, refl, sym, ap, subst, ◌∙◌, ◌⊎◌, inl, inr, arith}
+use Rattle.std.proofs.Common.{◌≡◌, ℕ, suc, ◌+◌, ◌-◌, ◌*◌, ◌<◌, ◌≤◌, eqb, ◌&&◌, Bool, true, false, not, cond, List, ◌∷◌, length, Option, Some, None, is_some, is_none, nat_lt, Result, Ok, Err, option_map, refl, sym, ap, subst, ◌∙◌, ◌⊎◌, inl, inr, arith}
 use Rattle.std.specs.Prelude.{slice_index_or, slice_set}
 use Rattle.std.specs.Option.{option_to_list}
 use Rattle.std.proofs.lemmas.Bool.{false≢true, ltb-true, cases_lt}
@@ -32,8 +32,8 @@ use Rattle.atom_mach.proofs.Booleans.{and_true, either_case, is_none-None}
 use Rattle.atom_mach.proofs.Kept.{executed_kept, interrupted_kept, line_kept}
 use Rattle.atom_mach.proofs.Lengths.{banners_short}
 use Rattle.plant_mach.specs.Machine.{PlantedMachine, planted_at, enabled_address, enabled_at, planted_of, is_held}
-use Rattle.plant_mach.specs.Entries.{Made, may_run, may_pass, after_pass, after_step, is_called, reason_again, reason_in, opened_for, has_line, stage_after, line_made, read_in, step_address, may, effect}
-use Rattle.plant_mach.proofs.Sessions.{in_session-open, is_lines-Lines, is_leaving-Leaving, is_pass-Pass}
+use Rattle.plant_mach.specs.Entries.{Made, may_run, may_pass, after_pass, after_step, is_called, reason_again, reason_in, opened_for, stage_after, line_made, step_address, may, effect}
+use Rattle.plant_mach.proofs.Sessions.{IsLineRead, reads_line, is_lines-Lines, is_leaving-Leaving, is_pass-Pass}
 use Rattle.plant_mach.proofs.Opens.{open-opened}
 use Rattle.plant_told.specs.Told.{Counted}
 use Rattle.plant_room.specs.Room.{count_where, pending_calls, planted_count, most_sends, steps_left, stage_left, session_left, word_left, entries_left, bytes_left, opening_at, opening_left, text_left, counted_after}
@@ -331,8 +331,19 @@ read_steps limit read steps = omega arith
 read_lines : (read u : ℕ) → read + 1 + u ≡ read + suc u
 read_lines read u = omega arith
 
+-- the counted machine once a line has made this
+abbrev counted_read : Counted → Made → Counted
+counted_read c d = record { machine = d.next; sends = c.sends; stepped = false; released = c.released }
+
+-- the line of a legal entry
+legal_line : (c : Counted) (h : Hart) → may c.machine (Line h) ≡ true → IsLineRead c.machine
+unfolding may
+legal_line c h e =
+    let a = and_true (in_session (λ s. is_of h.0 s && is_lines s.stage) c.machine.session) _ e in
+    reads_line c.machine h.0 a.0 (and_true (eqb (planted_of c.machine) 0) _ a.1).1
+
 line-read : (c : Counted) (x : Sitting) (line : List ℕ) (rest : List (List ℕ)) → c.machine.machine.unread ≡ line ∷ rest →
-    1 + bytes_left (record { machine = (line_made c.machine x (line_effect x.master x.late line (with_read c.machine.machine rest))).next; sends = c.sends; stepped = false; released = c.released }) ≤ bytes_left c
+    1 + bytes_left (counted_read c (line_made c.machine x (line_effect x.master x.late line (with_read c.machine.machine rest)))) ≤ bytes_left c
 unfolding bytes_left line_effect
 line-read c x line rest unread =
     let s = c.machine.machine in
@@ -351,21 +362,10 @@ line-read c x line rest unread =
     subst (λ v. room (hart_count cut.machine) (s.lines_read + 1 + u) ≤ before v) (sym (ap length unread)) by_harts
 
 line-bytes : (c : Counted) (h : Hart) → may c.machine (Line h) ≡ true → length (entry_bytes (Line h)) + bytes_left (counted_after c (Line h)) ≤ bytes_left c
-unfolding entry_bytes effect may
+unfolding entry_bytes effect
 line-bytes c h e =
-    let a = and_true (in_session (λ s. is_of h.0 s && is_lines s.stage) c.machine.session) _ e in
-    let found = in_session-open (λ s. is_of h.0 s && is_lines s.stage) c.machine.session a.0 in
-    by_unread found.sitting found.is c.machine.machine.unread refl (and_true (eqb (planted_of c.machine) 0) _ a.1).1
-  where
-    with_made : Made → Counted
-    with_made d = record { machine = d.next; sends = c.sends; stepped = false; released = c.released }
-
-    by_unread : (x : Sitting) → c.machine.session ≡ Some x → (unread : List (List ℕ)) → c.machine.machine.unread ≡ unread → has_line unread ≡ true →
-        1 + bytes_left (with_made (read_in c.machine.session c.machine.machine.unread c.machine)) ≤ bytes_left c
-    by_unread x is [] unread f = absurd (false≢true f)
-    by_unread x is (line ∷ rest) unread f =
-        let made : read_in c.machine.session c.machine.machine.unread c.machine ≡ line_made c.machine x (line_effect x.master x.late line (with_read c.machine.machine rest)) = ap (λ session. read_in session c.machine.machine.unread c.machine) is ∙ ap (λ u. read_in (Some x) u c.machine) unread in
-        subst (λ (d : Made). 1 + bytes_left (with_made d) ≤ bytes_left c) (sym made) (line-read c x line rest unread)
+    let l = legal_line c h e in
+    subst (λ (d : Made). 1 + bytes_left (counted_read c d) ≤ bytes_left c) (sym l.made) (line-read c l.sitting l.line l.rest l.unread)
 
 entry-bytes : (c : Counted) (e : Entry) → IsBounded c.machine → may c.machine e ≡ true → IsWithinCounts e c → is_end e ≡ false → length (entry_bytes e) + bytes_left (counted_after c e) ≤ bytes_left c
 entry-bytes c (Step h) bounded legal counts no_end = step-bytes c h bounded legal
@@ -515,7 +515,7 @@ after_line : (limit read steps u o : ℕ) → o ≤ 1 → limit + (read + 1) - s
 after_line limit read steps u o few = omega arith
 
 text-read : (c : Counted) (x : Sitting) (line : List ℕ) (rest : List (List ℕ)) → c.machine.machine.unread ≡ line ∷ rest →
-    text_left (record { machine = (line_made c.machine x (line_effect x.master x.late line (with_read c.machine.machine rest))).next; sends = c.sends; stepped = false; released = c.released })
+    text_left (counted_read c (line_made c.machine x (line_effect x.master x.late line (with_read c.machine.machine rest))))
     ≤ c.machine.machine.limit + c.machine.machine.lines_read + 1 - c.machine.machine.steps + 240 * (length c.machine.machine.unread + 2)
 unfolding text_left line_effect
 text-read c x line rest unread =
@@ -527,24 +527,11 @@ text-read c x line rest unread =
 
 line-text : (c : Counted) (h : Hart) → may c.machine (Line h) ≡ true →
     text_left (counted_after c (Line h)) ≤ c.machine.machine.limit + c.machine.machine.lines_read + 1 - c.machine.machine.steps + 240 * (length c.machine.machine.unread + 2)
-unfolding effect may
+unfolding effect
 line-text c h e =
-    let a = and_true (in_session (λ s. is_of h.0 s && is_lines s.stage) c.machine.session) _ e in
-    let found = in_session-open (λ s. is_of h.0 s && is_lines s.stage) c.machine.session a.0 in
-    by_unread found.sitting found.is c.machine.machine.unread refl (and_true (eqb (planted_of c.machine) 0) _ a.1).1
-  where
-    with_made : Made → Counted
-    with_made d = record { machine = d.next; sends = c.sends; stepped = false; released = c.released }
-
-    most : ℕ
-    most = c.machine.machine.limit + c.machine.machine.lines_read + 1 - c.machine.machine.steps + 240 * (length c.machine.machine.unread + 2)
-
-    by_unread : (x : Sitting) → c.machine.session ≡ Some x → (unread : List (List ℕ)) → c.machine.machine.unread ≡ unread → has_line unread ≡ true →
-        text_left (with_made (read_in c.machine.session c.machine.machine.unread c.machine)) ≤ most
-    by_unread x is [] unread f = absurd (false≢true f)
-    by_unread x is (line ∷ rest) unread f =
-        let made : read_in c.machine.session c.machine.machine.unread c.machine ≡ line_made c.machine x (line_effect x.master x.late line (with_read c.machine.machine rest)) = ap (λ session. read_in session c.machine.machine.unread c.machine) is ∙ ap (λ u. read_in (Some x) u c.machine) unread in
-        subst (λ (d : Made). text_left (with_made d) ≤ most) (sym made) (text-read c x line rest unread)
+    let l = legal_line c h e in
+    let most = c.machine.machine.limit + c.machine.machine.lines_read + 1 - c.machine.machine.steps + 240 * (length c.machine.machine.unread + 2) in
+    subst (λ (d : Made). text_left (counted_read c d) ≤ most) (sym l.made) (text-read c l.sitting l.line l.rest l.unread)
 
 -- What is always left.
 
