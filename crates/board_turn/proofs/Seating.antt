@@ -75,6 +75,18 @@ module _ {B : Type 0} where
   blank_fits : (rounds : ℕ) (start : Option B) (words : List ℕ) (b : Told) (k : ℕ) → SeatFits rounds start words b k blank_view
   blank_fits rounds start words b k = record { live = λ t. absurd (both_ways false refl t); spent = λ f. record { phase = refl; place = refl } }
 
+  -- a seat stays its hart's where only the numbers of seats that were made and are left change
+  recounted : (rounds : ℕ) (start : Option B) (words : List ℕ) (b : Told) (k : ℕ) (v : View B) (made left : ℕ) → IsSeatOf rounds start words b k v → IsSeatOf rounds start words b k (record v { at = record v.at { made = made }; left = left })
+  recounted rounds start words b k v made left x = record {
+    hart = x.hart;
+    below = x.below;
+    of_rounds = x.of_rounds;
+    of_harts = x.of_harts;
+    of_start = x.of_start;
+    gate = x.gate;
+    holder = λ e. record { tells = (x.holder e).tells; notes = (x.holder e).notes };
+  }
+
   -- the seats, with one more
   snoc_fits : (rounds : ℕ) (start : Option B) (words : List ℕ) (b : Told) (views : List (View B)) (u : View B) → SeatFits rounds start words b (length views) u → ((k : ℕ) → SeatFits rounds start words b k (view_of views k))
       → (k : ℕ) → SeatFits rounds start words b k (view_of (views ++ u ∷ []) k)
@@ -140,15 +152,7 @@ module _ {B : Type 0} (told_by : B → Told) (same : B → B → Type 0) where
               holder = λ e. absurd (both_ways false refl e);
             }))
             (seats_fit told_by same r.rounds r.start s.words r.told s.views id (one_more v) x.there
-            (live_fits told_by same r.rounds r.start s.words r.told id (one_more v) live (record {
-              hart = x.seat.hart;
-              below = x.seat.below;
-              of_rounds = x.seat.of_rounds;
-              of_harts = x.seat.of_harts;
-              of_start = x.seat.of_start;
-              gate = x.seat.gate;
-              holder = λ e. record { tells = (x.seat.holder e).tells; notes = (x.seat.holder e).notes };
-            }))
+            (live_fits told_by same r.rounds r.start s.words r.told id (one_more v) live (recounted r.rounds r.start s.words r.told id v (v.at.made + 1) (v.left + 1) x.seat))
             (λ k ne. r.seats k));
         home = r.home;
         counts = record {
@@ -193,15 +197,7 @@ module _ {B : Type 0} (told_by : B → Told) (same : B → B → Type 0) where
         one_slot = r.one_slot;
         seats = seats_fit told_by same r.rounds r.start s.words r.told views other blank_view a.there (blank_fits r.rounds r.start s.words r.told other)
             (λ k ne. seats_fit told_by same r.rounds r.start s.words r.told s.views id (one_fewer v) x.there
-            (live_fits told_by same r.rounds r.start s.words r.told id (one_fewer v) live (record {
-              hart = x.seat.hart;
-              below = x.seat.below;
-              of_rounds = x.seat.of_rounds;
-              of_harts = x.seat.of_harts;
-              of_start = x.seat.of_start;
-              gate = x.seat.gate;
-              holder = λ e. record { tells = (x.seat.holder e).tells; notes = (x.seat.holder e).notes };
-            }))
+            (live_fits told_by same r.rounds r.start s.words r.told id (one_fewer v) live (recounted r.rounds r.start s.words r.told id v v.at.made (v.left - 1) x.seat))
             (λ j other_ne. r.seats j) k);
         home = r.home;
         counts = record {

@@ -112,13 +112,21 @@ module _ {B : Type 0} where
       shown_by rounds words2 (set views h w) b2 turn master gate own (put (part (λ v. v.at.phase) views) h w.at.phase) (put (part (λ v. v.at.place) views) h w.at.place) t m g o
       (part_set (λ v. v.at.phase) views h w lt) (part_set (λ v. v.at.place) views h w lt)
 
+  -- the same where the words are as before
+  shown_moves : (rounds : ℕ) (words words2 : List ℕ) (views : List (View B)) (b : Told) (h : ℕ) (w : View B) → h < length views → SameWords words words2
+      → shown rounds words2 (set views h w) b ≡ record (shown rounds words views b) { phase = put (shown rounds words views b).phase h w.at.phase; place = put (shown rounds words views b).place h w.at.place }
+  unfolding shown
+  shown_moves rounds words words2 views b h w lt same =
+      let c : Configuration = shown rounds words views b in
+      shown_step rounds words words2 views b b h w c.turn c.master c.gate c.own lt same.turn same.master same.gate same.own
+
   -- only the place changes
   pub shown_goes : (rounds : ℕ) (words words2 : List ℕ) (views : List (View B)) (b : Told) (h : ℕ) (w : View B) → h < length views → SameWords words words2 → w.at.phase ≡ (view_of views h).at.phase
       → shown rounds words2 (set views h w) b ≡ goes h w.at.place (shown rounds words views b)
   unfolding shown
   shown_goes rounds words words2 views b h w lt same e =
       let c : Configuration = shown rounds words views b in
-      shown_step rounds words words2 views b b h w c.turn c.master c.gate c.own lt same.turn same.master same.gate same.own
+      shown_moves rounds words words2 views b h w lt same
       ∙ ap (λ f. record c { phase = f; place = put c.place h w.at.place }) (put_again c.phase h w.at.phase (sym e))
 
   -- only the phase changes
@@ -127,7 +135,7 @@ module _ {B : Type 0} where
   unfolding shown
   shown_enters rounds words words2 views b h w lt same e =
       let c : Configuration = shown rounds words views b in
-      shown_step rounds words words2 views b b h w c.turn c.master c.gate c.own lt same.turn same.master same.gate same.own
+      shown_moves rounds words words2 views b h w lt same
       ∙ ap (λ f. record c { phase = put c.phase h w.at.phase; place = f }) (put_again c.place h w.at.place (sym e))
 
   -- nothing changes

@@ -79,6 +79,21 @@ module _ {B : Type 0} (told_by : B → Told) (same : B → B → Type 0) where
       → Ruled told_by same (record { words = words; homes = s.homes; views = views })
   over_words s views words e r = subst (λ ws. Ruled told_by same (record { words = ws; homes = s.homes; views = views })) (sym e) r
 
+  -- a seat goes to a place where it doesn't hold the turn, and no word changes
+  goes_quietly : (s : State (Option (Slot B)) (View B)) (r : Ruled told_by same s) (id : ℕ) (to : Place) (v : View B) → v.live ≡ true → Sits told_by same s r id v → holds to ≡ false
+      → Sound (shown r.rounds s.words (set s.views id (moved_to (at_place to v.at) v)) r.told) → Ruled told_by same (record { words = s.words; homes = s.homes; views = set s.views id (moved_to (at_place to v.at) v) })
+  goes_quietly s r id to v live x out sound =
+      quiet told_by same s r id v (moved_to (at_place to v.at) v) s.words live x (record {
+        size = r.all_words;
+        turn = refl;
+        notes = λ j lt. refl;
+        gates = λ k ne e. refl;
+        seat = record { live = live; hart = refl; limit = refl; harts = refl; start = refl; made = refl; left = refl };
+        gate = x.seat.gate;
+        out = out;
+        sound = sound;
+      })
+
   -- the load of the turn word
   pub peeks_allowed : (slots id : ℕ) (me : Me (Option (Slot B)) (View B)) → me.0.live ≡ true → me.0.at.place ≡ place.Peek
       → Allows (Ruled told_by same) slots id me TURN (λ n. n) (Peeks (step slots TURN 0 0 none) me)
@@ -95,16 +110,8 @@ module _ {B : Type 0} (told_by : B → Told) (same : B → B → Type 0) where
         table.keeps,
         tt,
         over_words s (set s.views id w) (set s.words TURN turn) (reload s.words TURN 0 (turn_there s.words r.all_words))
-            (quiet told_by same s r id v w s.words live x (record {
-              size = r.all_words;
-              turn = refl;
-              notes = λ j lt. refl;
-              gates = λ k ne e. refl;
-              seat = record { live = live; hart = refl; limit = refl; harts = refl; start = refl; made = refl; left = refl };
-              gate = x.seat.gate;
-              out = peek_out (is_busy v.at.hart.0 v.at.phase turn) v.at.place turn (ap holds p);
-              sound = subst Sound (sym shows) (peek_keeps c id v.at.phase r.sound (place_shown told_by same s r id v x ∙ p));
-            })),
+            (goes_quietly s r id (after_peek turn v.at).place v live x (peek_out (is_busy v.at.hart.0 v.at.phase turn) v.at.place turn (ap holds p))
+            (subst Sound (sym shows) (peek_keeps c id v.at.phase r.sound (place_shown told_by same s r id v x ∙ p)))),
         refl,
       )
 
@@ -115,17 +122,8 @@ module _ {B : Type 0} (told_by : B → Told) (same : B → B → Type 0) where
       let w : View B = moved_to (at_place place.Peek v.at) v in
       let c : Configuration = shown r.rounds s.words s.views r.told in
       over_words s (set s.views id w) (set s.words TURN (word s.words TURN)) (reload s.words TURN 0 (turn_there s.words r.all_words))
-      (quiet told_by same s r id v w s.words live x (record {
-        size = r.all_words;
-        turn = refl;
-        notes = λ j lt. refl;
-        gates = λ k other e. refl;
-        seat = record { live = live; hart = refl; limit = refl; harts = refl; start = refl; made = refl; left = refl };
-        gate = x.seat.gate;
-        out = refl;
-        sound = subst Sound (sym (miss_shown r.rounds s.words s.views r.told id seen v w x.there x.here ne refl refl))
-            (take_keeps c id seen r.sound (place_shown told_by same s r id v x ∙ p));
-      }))
+      (goes_quietly s r id place.Peek v live x refl
+      (subst Sound (sym (miss_shown r.rounds s.words s.views r.told id seen v w x.there x.here ne refl refl)) (take_keeps c id seen r.sound (place_shown told_by same s r id v x ∙ p))))
 
   -- it found the word that was seen: what the board shows is sound, and the rule holds
   module _ (s : State (Option (Slot B)) (View B)) (r : Ruled told_by same s) (id seen : ℕ) (v : View B) (live : v.live ≡ true) (p : v.at.place ≡ place.Take seen) (x : Sits told_by same s r id v) (e : word s.words TURN ≡ seen) where
