@@ -23,6 +23,19 @@ pub record Outside : Type 0 where
   pub sink_before : ℕ
   pub sink_after : ℕ
 
+-- the same from a shelf and a sink before and after the call, by what each tells of its bytes and of its faults
+abbrev pub outside : {S T : Type 0} → (S → Option FileMap) → (S → ℕ) → S → S → (T → Option (List ℕ)) → (T → ℕ) → T → T → Outside
+outside contents shelf_faults shelf_before shelf_after taken sink_faults sink_before sink_after = record {
+  files_before = contents shelf_before;
+  files_after = contents shelf_after;
+  shelf_before = shelf_faults shelf_before;
+  shelf_after = shelf_faults shelf_after;
+  taken_before = taken sink_before;
+  taken_after = taken sink_after;
+  sink_before = sink_faults sink_before;
+  sink_after = sink_faults sink_after;
+}
+
 -- nothing was written
 pub record IsQuiet (o : Outside) : Type 0 where
   pub files : o.files_after ≡ o.files_before

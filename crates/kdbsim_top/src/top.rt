@@ -7,7 +7,7 @@ ghost use Rattle.program_words.specs.Commands as words;
 ghost use Rattle.program_words.specs.Laws.{AreWithin, IsCommandWithin};
 ghost use Rattle.program_words.specs.Views.{command_view};
 ghost use Rattle.kdbsim_files.specs.declared.status.Status.TheVariants.{Usage};
-ghost use Rattle.kdbsim_top.specs.Causes.{Explains, IsAnswer, IsAnswerAlone, IsForThreads};
+ghost use Rattle.kdbsim_top.specs.Causes.{Explains, IsAnswer, IsAnswerAlone, IsForThreads, outside};
 ghost use Rattle.kdbsim_top.specs.Runs.{is_run};
 
 use crate::commands::{load, lockstep, replay_files, run_files, uni};
@@ -40,16 +40,8 @@ pub fn kdbsim<R: Threads + Wait + Sync, F: Shelf, O: Sink, P: Pause + Copy + Sen
     ensures usage { result ≡ Usage → command_of (map string_bytes words.now) ≡ None }
 
     // Every answer has its cause; that of Done is the headline.
-    ensures cause { IsAnswer (record {
-      files_before = F.contents shelf.old;
-      files_after = F.contents shelf.new;
-      shelf_before = F.faults shelf.old;
-      shelf_after = F.faults shelf.new;
-      taken_before = O.taken out.old;
-      taken_after = O.taken out.new;
-      sink_before = O.faults out.old;
-      sink_after = O.faults out.new;
-    }) (command_of (map string_bytes words.now)) result }
+    ensures cause { IsAnswer (outside F.contents F.faults shelf.old shelf.new O.taken O.faults out.old out.new)
+        (command_of (map string_bytes words.now)) result }
 {
     match command_of(words, alloc) {
         Ok(
@@ -79,26 +71,8 @@ pub fn alone<F: Shelf, O: Sink>(
     out: &mut O,
 ) -> Option<Status>
     ensures { MatchOption result
-        (IsForThreads (record {
-          files_before = F.contents shelf.old;
-          files_after = F.contents shelf.new;
-          shelf_before = F.faults shelf.old;
-          shelf_after = F.faults shelf.new;
-          taken_before = O.taken out.old;
-          taken_after = O.taken out.new;
-          sink_before = O.faults out.old;
-          sink_after = O.faults out.new;
-        }) (command_of (map string_bytes words.now)))
-        (IsAnswerAlone (record {
-          files_before = F.contents shelf.old;
-          files_after = F.contents shelf.new;
-          shelf_before = F.faults shelf.old;
-          shelf_after = F.faults shelf.new;
-          taken_before = O.taken out.old;
-          taken_after = O.taken out.new;
-          sink_before = O.faults out.old;
-          sink_after = O.faults out.new;
-        }) (command_of (map string_bytes words.now))) }
+        (IsForThreads (outside F.contents F.faults shelf.old shelf.new O.taken O.faults out.old out.new) (command_of (map string_bytes words.now)))
+        (IsAnswerAlone (outside F.contents F.faults shelf.old shelf.new O.taken O.faults out.old out.new) (command_of (map string_bytes words.now))) }
 {
     match command_of(words, alloc) {
         Ok(Command::Run { .. }) => None,
@@ -118,16 +92,8 @@ fn answer<F: Shelf, O: Sink>(
     requires within { IsCommandWithin (command_view command) }
     requires apart { writes_apart (command_view command) ≡ true }
     requires alone { is_run (command_view command) ≡ false }
-    ensures cause { Explains (record {
-      files_before = F.contents shelf.old;
-      files_after = F.contents shelf.new;
-      shelf_before = F.faults shelf.old;
-      shelf_after = F.faults shelf.new;
-      taken_before = O.taken out.old;
-      taken_after = O.taken out.new;
-      sink_before = O.faults out.old;
-      sink_after = O.faults out.new;
-    }) (command_view command.entry) result }
+    ensures cause { Explains (outside F.contents F.faults shelf.old shelf.new O.taken O.faults out.old out.new)
+        (command_view command.entry) result }
 {
     match command {
         Command::Uni { image, script } => answer_uni(alloc, shelf, out, image, script),
@@ -151,12 +117,12 @@ fn answer<F: Shelf, O: Sink>(
             let names = StartNames { image, map, script };
             answer_lockstep(alloc, shelf, out, names, plan, journal, options)
         }
-        Command::Asm { source, image } => answer_asm(alloc, shelf, source, image),
+        Command::Asm { source, image } => assemble(alloc, shelf, source, image),
         Command::Elf {
             executable,
             image,
             map,
-        } => answer_elf(alloc, shelf, executable, image, map),
+        } => convert(alloc, shelf, executable, image, map),
         Command::Load { number } => answer_load(alloc, out, number),
         Command::Run { .. } => unreachable!(),
     }
@@ -170,16 +136,8 @@ fn answer_uni<F: Shelf, O: Sink>(
     image: &str,
     script: &str,
 ) -> Status
-    ensures cause { Explains (record {
-      files_before = F.contents shelf.old;
-      files_after = F.contents shelf.new;
-      shelf_before = F.faults shelf.old;
-      shelf_after = F.faults shelf.new;
-      taken_before = O.taken out.old;
-      taken_after = O.taken out.new;
-      sink_before = O.faults out.old;
-      sink_after = O.faults out.new;
-    }) (words.uni image.now script.now) result }
+    ensures cause { Explains (outside F.contents F.faults shelf.old shelf.new O.taken O.faults out.old out.new)
+        (words.uni image.now script.now) result }
 {
     match uni(alloc, shelf, image, script) {
         Ok(told) => print(out, told),
@@ -195,16 +153,8 @@ fn answer_replay<F: Shelf, O: Sink>(
     names: StartNames<'_>,
     journal: &str,
 ) -> Status
-    ensures cause { Explains (record {
-      files_before = F.contents shelf.old;
-      files_after = F.contents shelf.new;
-      shelf_before = F.faults shelf.old;
-      shelf_after = F.faults shelf.new;
-      taken_before = O.taken out.old;
-      taken_after = O.taken out.new;
-      sink_before = O.faults out.old;
-      sink_after = O.faults out.new;
-    }) (words.replay names.entry.image.now names.entry.map.now names.entry.script.now journal.now) result }
+    ensures cause { Explains (outside F.contents F.faults shelf.old shelf.new O.taken O.faults out.old out.new)
+        (words.replay names.entry.image.now names.entry.map.now names.entry.script.now journal.now) result }
 {
     match replay_files(alloc, shelf, names, journal) {
         Ok(told) => print(out, told),
@@ -223,61 +173,13 @@ fn answer_lockstep<F: Shelf, O: Sink>(
     options: Options,
 ) -> Status
     requires within { AreWithin options }
-    ensures cause { Explains (record {
-      files_before = F.contents shelf.old;
-      files_after = F.contents shelf.new;
-      shelf_before = F.faults shelf.old;
-      shelf_after = F.faults shelf.new;
-      taken_before = O.taken out.old;
-      taken_after = O.taken out.new;
-      sink_before = O.faults out.old;
-      sink_after = O.faults out.new;
-    }) (words.lockstep names.entry.image.now names.entry.map.now names.entry.script.now plan.now journal.now options) result }
+    ensures cause { Explains (outside F.contents F.faults shelf.old shelf.new O.taken O.faults out.old out.new)
+        (words.lockstep names.entry.image.now names.entry.map.now names.entry.script.now plan.now journal.now options) result }
 {
     match lockstep(alloc, shelf, names, plan, options) {
         Ok(recorded) => publish(shelf, out, journal, recorded),
         Err(status) => status,
     }
-}
-
-/// The command `asm`, which leaves the sink as it is.
-fn answer_asm<F: Shelf>(alloc: Global, shelf: &mut F, source: &str, image: &str) -> Status
-    ensures { (taken : Option (List ℕ)) (faults : ℕ) → Explains (record {
-      files_before = F.contents shelf.old;
-      files_after = F.contents shelf.new;
-      shelf_before = F.faults shelf.old;
-      shelf_after = F.faults shelf.new;
-      taken_before = taken;
-      taken_after = taken;
-      sink_before = faults;
-      sink_after = faults;
-    }) (words.asm source.now image.now) result }
-{
-    assemble(alloc, shelf, source, image)
-}
-
-/// The command `elf`, which leaves the sink as it is.
-#[tactic(auto, using(crate::proofs::Publishing::names_apart))]
-fn answer_elf<F: Shelf>(
-    alloc: Global,
-    shelf: &mut F,
-    executable: &str,
-    image: &str,
-    map: &str,
-) -> Status
-    requires apart { writes_apart (words.elf executable.now image.now map.now) ≡ true }
-    ensures { (taken : Option (List ℕ)) (faults : ℕ) → Explains (record {
-      files_before = F.contents shelf.old;
-      files_after = F.contents shelf.new;
-      shelf_before = F.faults shelf.old;
-      shelf_after = F.faults shelf.new;
-      taken_before = taken;
-      taken_after = taken;
-      sink_before = faults;
-      sink_after = faults;
-    }) (words.elf executable.now image.now map.now) result }
-{
-    convert(alloc, shelf, executable, image, map)
 }
 
 /// The command `load`, which calls the shelf for nothing.
@@ -311,16 +213,8 @@ fn answer_run<R: Threads + Wait + Sync, F: Shelf, O: Sink, P: Pause + Copy + Sen
     pause: P,
 ) -> Status
     requires within { AreWithin options }
-    ensures cause { Explains (record {
-      files_before = F.contents shelf.old;
-      files_after = F.contents shelf.new;
-      shelf_before = F.faults shelf.old;
-      shelf_after = F.faults shelf.new;
-      taken_before = O.taken out.old;
-      taken_after = O.taken out.new;
-      sink_before = O.faults out.old;
-      sink_after = O.faults out.new;
-    }) (words.run names.entry.image.now names.entry.map.now names.entry.script.now journal.now options) result }
+    ensures cause { Explains (outside F.contents F.faults shelf.old shelf.new O.taken O.faults out.old out.new)
+        (words.run names.entry.image.now names.entry.map.now names.entry.script.now journal.now options) result }
 {
     match run_files(rt, alloc, shelf, names, options, pause) {
         Ok(recorded) => publish(shelf, out, journal, recorded),
