@@ -11,7 +11,7 @@ use board_turn::{Board, MASTER, OWN, Pass};
 use deck_core::{Bus, Phase, after_clear};
 use mach_base::Hart;
 
-/// There is a master: this hart.
+/// There is a master: the word found says this hart.
 #[derive(Clone, Copy, Debug, PartialEq, Eq)]
 pub struct Taken {
     pub by: Hart,
@@ -31,7 +31,8 @@ pub fn want<B: Bus>(board: &Board<B>, pass: &mut Pass<B>)
     pass.stand.phase = Phase::Want;
 }
 
-/// Tries to become the master. Where there is one, the answer names it, and the hart stays where it stands.
+/// Tries to become the master. Where there is one, the answer has the hart that the word found says, and this hart stays where
+/// it stands.
 pub fn try_master<B: Bus>(board: &Board<B>, pass: &mut Pass<B>) -> Result<(), Taken>
     requires ready { IsReady board.now.table.shared.table_id pass.old }
     requires phase { pass.old.stand.phase ≡ Want }

@@ -116,7 +116,7 @@ impl<B: Bus> Board<B> {
     }
 
     /// The bus at the end. The passes are all that were made, in the order of their harts, and each has seen an ending. So
-    /// one stands; and the bus has the origin of the one that the board was made with.
+    /// one stands, or a line ran out of memory; and the bus has the origin of the one that the board was made with.
     pub fn finish(self, passes: Vec<Pass<B>>) -> B
         requires { AreAll self.table.shared.table_id passes.items }
         ensures origin { IsOrigin B.SameOrigin (first_start passes.items) result }

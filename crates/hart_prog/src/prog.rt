@@ -47,9 +47,10 @@ impl Prog {
         }
     }
 
-    /// Makes the hart's next tick on a deck that stands where the program does. `Waits` where the tick was a load that
-    /// found the turn busy, or found a master, the gate still shut at the hart's number, or no mark that counts, or where
-    /// the hart had nothing to do; `Finished` where it saw an ending, now or before.
+    /// Makes the hart's next tick on a deck that stands where the program does. On a deck that tells its whole
+    /// configuration, `Waits` where the tick was a load that found the turn busy, or found a master, the gate still shut at
+    /// the hart's number, or no mark that counts, or where the hart had nothing to do; `Finished` where it saw an ending,
+    /// now or before.
     pub fn advance<D: Deck>(&mut self, deck: &mut D) -> Progress
         requires stands { Stands self.old (D.seat deck.old) }
         requires ready { D.IsReady deck.old }

@@ -23,12 +23,14 @@ pub fn never_legal()
     ensures { NeverLegal }
 {}
 
-/// An entry that isn't a hart's own leaves its context, but for the pending interrupt and the reservation.
+/// An entry that is no line, and no step or interrupt of a hart, leaves that hart's context, but for the pending interrupt and
+/// the reservation.
 pub fn entries_leave_others()
     ensures { EntriesLeaveOthers }
 {}
 
-/// A legal entry keeps the number of harts, the segments, the symbols, the limit of steps and the script.
+/// A legal entry keeps the number of harts, the segments, the symbols, the limit of steps, the number of the script's lines
+/// and the limits of what the debugger holds.
 pub fn entries_keep()
     ensures { EntriesKeep }
 {}

@@ -6,7 +6,7 @@
 //!   besides (`Counted`): calls sent, whether a step word was planted since the last line.
 //!
 //! It stands on the planted machine (`plant_mach`) and on the protocol's words (`deck_core`); the bus over the planted
-//! machine is to stand on it. There is no code here: its calls do nothing, and their contracts are the laws.
+//! machine stands on it. There is no code here: its calls do nothing, and their contracts are the laws.
 #![tactic(auto)]
 
 mod laws;
