@@ -47,8 +47,8 @@ pub fn steps_leave_others()
     ensures steps { StepsLeaveOthers }
 {}
 
-/// While a session with late harts is open, no step of another hart changes a hart that the session holds, but for its
-/// pending interrupt and its reservation.
+/// While a session with late harts is open, no step of another hart that is no line changes a hart that the session holds,
+/// but for its pending interrupt and its reservation.
 pub fn late_sessions_keep_gathered_harts()
     ensures { LateSessionsKeepGatheredHarts }
 {}

@@ -81,14 +81,16 @@ impl Core {
         Core::start_with_room(alloc, image, names, script, harts, limit, room)
     }
 
-    /// Makes the entry. `NotLegal` comes exactly where it isn't legal, and then nothing is changed. `OutOfMemory` changes
-    /// nothing, unless a line or the script's end met it: then the core is lost for good, and answers only this.
+    /// Makes the entry. Unless the core is lost, `NotLegal` comes exactly where the entry isn't legal, and then nothing is
+    /// changed. `OutOfMemory` changes nothing, unless a line or the script's end met it: then the core is lost for good, and
+    /// answers only this.
     pub fn apply(&mut self, entry: Entry) -> Result<(), ApplyFault>
         ensures made { OnOk result (Applied self.old entry self.new) }
         ensures not_legal { self.old.lost ≡ false → (result ≡ Err NotLegal) ↔ (makes (machine_of self.old) entry ≡ None) }
         ensures kept { result ≡ Err NotLegal → self.new ≡ self.old }
         ensures unchanged { result ≡ Err NoMemory → self.new.lost ≡ self.old.lost → IsSame self.old self.new }
         ensures lost { self.old.lost ≡ true → self.new.lost ≡ true }
+        ensures out_of_memory { self.old.lost ≡ true → result ≡ Err NoMemory }
         ensures quiet { is_quiet entry ≡ true → self.new.lost ≡ self.old.lost }
         ensures origin { SameOrigin self.old self.new }
     {

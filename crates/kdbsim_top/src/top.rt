@@ -63,7 +63,7 @@ pub fn kdbsim<R: Threads + Wait + Sync, F: Shelf, O: Sink, P: Pause + Copy + Sen
 }
 
 /// The same of every command but `run`, without a wait: the call returns. None comes only where the words ask for `run`, and
-/// nothing was read and nothing written then; where they do, it comes unless memory runs out.
+/// nothing was written then; where they do, it comes unless memory runs out.
 pub fn alone<F: Shelf, O: Sink>(
     alloc: Global,
     words: &[String],

@@ -20,7 +20,8 @@ wrong_uses = record {
   too_many = λ row given before value rest none. rw none refl;
   unknown_option = λ row given before name value rest none. rw none refl;
   twice = λ row given before name value rest p some had. rw (some, had) refl;
-  out_of_bounds = λ row given before name value rest p some out. rw (some, out, and_false (not (is_given p.name given))) refl;
+  operand_out_of_bounds = λ row given before value rest p some out. rw (some, out, and_false (not (is_given p.name given))) refl;
+  option_out_of_bounds = λ row given before name value rest p some out. rw (some, out, and_false (not (is_given p.name given))) refl;
 }
 
 item_plain : (k : Kind) (word : Text) (words : List Text) (next : Option Text → Option (List Item)) → is_plain_kind k ≡ true → next None ≡ Some (map operand words)

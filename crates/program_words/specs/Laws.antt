@@ -29,8 +29,11 @@ pub record WrongUses : Type 0 where
   -- an option that comes twice
   pub twice : (row : Row) (given : List Argument) (before : ℕ) (name value : Text) (rest : List Item) (p : Parameter) → option_of row name ≡ Some p
       → is_given p.name given ≡ true → arguments row given before (option name value ∷ rest) ≡ None
-  -- a number that is none or out of its bounds
-  pub out_of_bounds : (row : Row) (given : List Argument) (before : ℕ) (name value : Text) (rest : List Item) (p : Parameter) → option_of row name ≡ Some p
+  -- an operand that is no number, or one out of its bounds, where the command takes a number
+  pub operand_out_of_bounds : (row : Row) (given : List Argument) (before : ℕ) (value : Text) (rest : List Item) (p : Parameter) → slice_get row.operands before ≡ Some p
+      → fits p.value value ≡ false → arguments row given before (operand value ∷ rest) ≡ None
+  -- an option whose value is no number, or one out of its bounds
+  pub option_out_of_bounds : (row : Row) (given : List Argument) (before : ℕ) (name value : Text) (rest : List Item) (p : Parameter) → option_of row name ≡ Some p
       → fits p.value value ≡ false → arguments row given before (option name value ∷ rest) ≡ None
 
 -- the word is no flag

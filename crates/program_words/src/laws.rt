@@ -1,7 +1,8 @@
 ghost use Rattle.program_words.specs.Laws.{RequestsAreWithin, UniTakesTwoFiles, WrongUses};
 
 /// A law of the words: no words, a first word that is no command's, too few or too many operands, an option that the
-/// command lacks or that comes twice, and a number out of its bounds are each a wrong use.
+/// command lacks or that comes twice, and where a number is taken a value that is none or out of its bounds are each a
+/// wrong use.
 pub fn wrong_uses()
     ensures { WrongUses }
 {}

@@ -51,7 +51,7 @@ pub fn runs_grow<B: GrowingBus>()
     ensures { RunsKeep B.told B.Does B.GrowsTo }
 {}
 
-/// Where the calls are a function of a state, the end of a run follows from its plan.
+/// Where the calls are a function of a state and nothing is lost, the end of a run follows from its plan.
 pub fn runs_are_exact<B: ExactBus>()
     ensures { RunsAreExact B.told B.Does B.is_lost B.state B.told_in B.called }
 {}
